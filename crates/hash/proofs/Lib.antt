@@ -1,0 +1,3 @@
+pub mod LowBits
+pub mod Bounds
+pub mod Unique

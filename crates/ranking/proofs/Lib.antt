@@ -1,0 +1,5 @@
+pub mod Choice
+pub mod Unsafe
+pub mod Instances
+pub mod Figures
+pub mod Unique

@@ -1,0 +1,19 @@
+-- Sets of numbers, held as lists: only which numbers stand there counts, neither their order nor repeats.
+use Prim.Native.Nat.{ℕ}
+use mathlib.Core.Bool.{Bool, true, false, _||_}
+use mathlib.Core.List.{List, [], _∷_}
+use mathlib.Core.Path.{_≡_}
+use lib.Dec.{eqb}
+
+-- x is a member
+abbrev pub member : ℕ → List ℕ → Bool
+member x [] = false
+member x (y ∷ l) = eqb x y || member x l
+
+-- every member of the first is a member of the second
+abbrev pub Within : List ℕ → List ℕ → Type 0
+Within m l = (x : ℕ) → member x m ≡ true → member x l ≡ true
+
+-- the two have the same members
+abbrev pub SameSet : List ℕ → List ℕ → Type 0
+SameSet l m = (x : ℕ) → member x l ≡ member x m

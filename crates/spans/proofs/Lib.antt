@@ -1,0 +1,3 @@
+pub mod Scans
+pub mod Shifts
+pub mod Unique

@@ -1,0 +1,82 @@
+-- The scans `same` and `allZero` at an index: what is left from there on decides the whole, and the three ways on.
+use Prim.Native.Nat.{ℕ, zero, suc, _+_, _<_, _≤_}
+use mathlib.Core.Bool.{Bool, true, false, cond}
+use mathlib.Core.List.{List, [], _∷_}
+use mathlib.Core.Path.{_≡_, refl, sym, ap, _∙_}
+use native.Mathlib.Numerals.{add-one}
+use lib.Dec.{eqb}
+use lib.ListN.{length, getD, drop, replicate, drop-of-length-le}
+use lib.Seq.{drop-cons}
+use borrow.Author.Tests.{eq-eqb, ne-eqb, eqb-true}
+use Rattle.sets.proofs.Cases.{both, clash}
+use Rattle.spans.specs.Spans.{same, allZero}
+
+pub same-apart : (a b : List ℕ) → (length a ≡ length b → ⊥) → same a b ≡ false
+unfolding same
+same-apart [] [] n = absurd (n refl)
+same-apart [] (y ∷ ys) n = refl
+same-apart (x ∷ xs) [] n = refl
+same-apart (x ∷ xs) (y ∷ ys) n =
+    elim (eqb x y) as (λ t. cond t (same xs ys) false ≡ false) [ true ↦ same-apart xs ys (λ e. n (ap suc e)) | false ↦ refl ]
+
+module _ (a b : List ℕ) (i : ℕ) (W : Bool) (so : same (drop i a) (drop i b) ≡ W) where
+  same-step : i < length a → i < length b
+      → same (drop i a) (drop i b) ≡ cond (eqb (getD a i 0) (getD b i 0)) (same (drop (i + 1) a) (drop (i + 1) b)) false
+  unfolding same
+  same-step h k = rw (add-one, drop-cons a i 0 h, drop-cons b i 0 k)
+
+  pub same-differ : i < length a → i < length b → (getD a i 0 ≡ getD b i 0 → ⊥) → false ≡ W
+  same-differ h k n = sym (rw (ne-eqb _ _ n) at (same-step h k)) ∙ so
+
+  pub same-more : i < length a → i < length b → getD a i 0 ≡ getD b i 0 → same (drop (i + 1) a) (drop (i + 1) b) ≡ W
+  same-more h k e = sym (rw (eq-eqb _ _ e) at (same-step h k)) ∙ so
+
+  pub same-end : length a ≤ i → length b ≤ i → true ≡ W
+  unfolding same
+  same-end h k = rw (drop-of-length-le a {i = i} h, drop-of-length-le b {i = i} k) at so
+
+module _ (s : List ℕ) (i : ℕ) (W : Bool) (so : allZero (drop i s) ≡ W) where
+  zero-step : i < length s → allZero (drop i s) ≡ cond (eqb (getD s i 0) 0) (allZero (drop (i + 1) s)) false
+  unfolding allZero
+  zero-step h = rw (add-one, drop-cons s i 0 h)
+
+  pub zero-stop : i < length s → (getD s i 0 ≡ 0 → ⊥) → false ≡ W
+  zero-stop h n = sym (rw (ne-eqb _ _ n) at (zero-step h)) ∙ so
+
+  pub zero-more : i < length s → getD s i 0 ≡ 0 → allZero (drop (i + 1) s) ≡ W
+  zero-more h e = sym (rw (eq-eqb _ _ e) at (zero-step h)) ∙ so
+
+  pub zero-end : length s ≤ i → true ≡ W
+  unfolding allZero
+  zero-end h = rw (drop-of-length-le s {i = i} h) at so
+
+-- the tests mean what they say
+pub same-equal : (a b : List ℕ) → same a b ≡ true → a ≡ b
+unfolding same
+same-equal [] [] e = refl
+same-equal [] (y ∷ ys) e = clash e refl
+same-equal (x ∷ xs) [] e = clash e refl
+same-equal (x ∷ xs) (y ∷ ys) e =
+    both
+    (eqb x y)
+    (λ t. let h : x ≡ y = eqb-true x y t in let k : xs ≡ ys = same-equal xs ys (rw t at e) in cc)
+    (λ t. clash (rw t at e) refl)
+
+pub same-self : (a : List ℕ) → same a a ≡ true
+unfolding same
+same-self [] = refl
+same-self (x ∷ xs) = rw (eq-eqb x x refl) (same-self xs)
+
+pub allZero-zeros : (s : List ℕ) → allZero s ≡ true → s ≡ replicate (length s) 0
+unfolding allZero
+allZero-zeros [] e = refl
+allZero-zeros (x ∷ xs) e =
+    both
+    (eqb x 0)
+    (λ t. let h : x ≡ 0 = eqb-true x 0 t in let k : xs ≡ replicate (length xs) 0 = allZero-zeros xs (rw t at e) in cc)
+    (λ t. clash (rw t at e) refl)
+
+pub zeros-allZero : (n : ℕ) → allZero (replicate n 0) ≡ true
+unfolding allZero
+zeros-allZero zero = refl
+zeros-allZero (suc n) = zeros-allZero n

@@ -1,0 +1,74 @@
+// Work on whole spans of bytes: a caller lends the part of its buffer that is meant.
+ghost use mathlib.Core.Path.{_≡_};
+ghost use mathlib.Core.List.{_++_};
+ghost use Prim.Native.Nat.{_≤_, _-_};
+ghost use lib.ListN.{length, drop};
+ghost use Rattle.spans.specs.Spans.{same as same-of, allZero, zeroed, closed};
+
+// Whether two spans hold the same bytes.
+pub fn same(a: &[u8], b: &[u8]) -> bool
+    ensures { λ r. ⌜ r ≡ same-of (now (a .entry)) (now (b .entry)) ⌝ }
+{
+    if a.len() != b.len() {
+        return false;
+    }
+    let mut i = 0;
+    while i < a.len() {
+        if a[i] != b[i] {
+            return false;
+        }
+        i += 1;
+    }
+    true
+}
+
+// Whether every byte of a span is zero.
+pub fn all_zero(s: &[u8]) -> bool
+    ensures { λ r. ⌜ r ≡ allZero (now (s .entry)) ⌝ }
+{
+    let mut i = 0;
+    while i < s.len() {
+        if s[i] != 0 {
+            return false;
+        }
+        i += 1;
+    }
+    true
+}
+
+// Zeroes a span.
+pub fn clear(s: &mut [u8])
+    ensures { λ _. ⌜ now (s .exit) ≡ zeroed (now (s .entry)) ⌝ }
+{
+    let mut i = 0;
+    while i < s.len() {
+        s[i] = 0;
+        i += 1;
+    }
+}
+
+// Closes the gap that the first k bytes of a span are: the rest moves to the front, zeros come in behind.
+pub fn close(s: &mut [u8], k: usize)
+    ensures { λ _. ⌜ now (s .exit) ≡ closed k (now (s .entry)) ⌝ }
+{
+    if s.len() <= k {
+        clear(s);
+        return;
+    }
+    let rest = s.len() - k;
+    shift(s, k);
+    clear(&mut s[rest..]);
+}
+
+// Moves what follows the first k bytes of a span to its front; the last k bytes stay.
+fn shift(s: &mut [u8], k: usize)
+    requires { ⌜ k ≤ length (now s) ⌝ }
+    ensures { λ _. ⌜ now (s .exit) ≡ drop k (now (s .entry)) ++ drop (length (now (s .entry)) - k) (now (s .entry)) ⌝ }
+{
+    let rest = s.len() - k;
+    let mut i = 0;
+    while i < rest {
+        s[i] = s[i + k];
+        i += 1;
+    }
+}
