@@ -3,3 +3,5 @@ pub mod Unsafe
 pub mod Instances
 pub mod Figures
 pub mod Unique
+pub mod Scan
+pub mod Loop

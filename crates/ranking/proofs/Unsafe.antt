@@ -9,10 +9,18 @@ use mathlib.Core.Path.{_≡_, refl}
 use Rattle.sets.specs.Sets.{member, Within}
 use Rattle.sets.proofs.Cases.{both, clash}
 use Rattle.sets.proofs.Members.{member-head, member-right, member-cases}
-use Rattle.ranking.specs.Ranking.{Ranking, Strict, choice, outranked, SomeChange}
+use Rattle.ranking.specs.Ranking.{Ranking, Strict, choice, outranked, unsafe, SomeChange}
 use Rattle.ranking.proofs.Choice.{choice-tops, choice-more, outranked-by, outranked-none}
 
 module _ (R : Ranking) (S : Strict R) (s : ℕ) (working horizon : List ℕ) (works : member s working ≡ true) where
+  -- "unsafe" while some server works
+  pub unsafe-outranked : unsafe R working horizon ≡ outranked R (choice R working) horizon
+  unsafe-outranked = some working works
+    where
+      some : (w : List ℕ) → member s w ≡ true → unsafe R w horizon ≡ outranked R (choice R w) horizon
+      some [] m = clash m refl
+      some (x ∷ w) m = refl
+
   -- any addition that has a server which outranks the choice changes it
   over-changes : (g : ℕ) (added : List ℕ) → member g added ≡ true → R g (choice R working) ≡ true
       → choice R (working ++ added) ≢ choice R working

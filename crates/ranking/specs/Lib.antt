@@ -1,2 +1,3 @@
 pub mod Ranking
 pub mod Methods
+pub mod Best

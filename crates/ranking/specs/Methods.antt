@@ -1,10 +1,10 @@
 -- Document 01, "Hashes": which server outranks which, for each of the three methods.
 use Prim.Native.Nat.{ℕ}
 use mathlib.Core.Bool.{Bool, cond}
-use mathlib.Core.List.{List, [], _∷_}
+use mathlib.Core.List.{List}
 use lib.Dec.{eqb, ltb}
 use Rattle.hash.specs.Hash.{digest, weight, row, position, point, distance}
-use Rattle.ranking.specs.Ranking.{Ranking, choice, outranked}
+use Rattle.ranking.specs.Ranking.{Ranking, choice, unsafe}
 
 -- "a higher weight outranks. Equal weights occur between S and S + 2^31 and then the higher number outranks": weight and number of a, then of b
 abbrev pub heavier : ℕ → ℕ → ℕ → ℕ → Bool
@@ -37,5 +37,4 @@ abbrev pub rowServer : List ℕ → ℕ → ℕ
 rowServer working r = choice (inRow r) working
 
 abbrev pub rowFlag : List ℕ → List ℕ → ℕ → ℕ
-rowFlag [] horizon r = 0
-rowFlag (s ∷ working) horizon r = cond (outranked (inRow r) (rowServer (s ∷ working) r) horizon) 1 0
+rowFlag working horizon r = cond (unsafe (inRow r) working horizon) 1 0

@@ -5,6 +5,7 @@ use mathlib.Core.List.{List, [], _∷_, _++_}
 use mathlib.Core.Logic.{_≢_}
 use mathlib.Core.Path.{_≡_}
 use Rattle.sets.specs.Sets.{Within}
+use Rattle.ranking.specs.declared.Pick.{Pick}
 
 -- a ranking, as the test whether its first server outranks its second
 abbrev pub Ranking : Type 0
@@ -34,6 +35,15 @@ choice R (s ∷ l) = highest R s l
 abbrev pub outranked : Ranking → ℕ → List ℕ → Bool
 outranked R c [] = false
 outranked R c (h ∷ l) = R h c || outranked R c l
+
+-- the choice is unsafe: some horizon server outranks it. Where no server works there is no choice, and nothing is unsafe.
+abbrev pub unsafe : Ranking → List ℕ → List ℕ → Bool
+unsafe R [] horizon = false
+unsafe R (s ∷ working) horizon = outranked R (choice R (s ∷ working)) horizon
+
+-- what a packet without a record is given: the choice over the working set, and whether it is unsafe
+abbrev pub picked : Ranking → List ℕ → List ℕ → Pick
+picked R working horizon = record { server = choice R working; flag = unsafe R working horizon }
 
 -- "adding some set of horizon movers would change that choice": there is a list of horizon servers whose addition to the working ones changes the choice
 abbrev pub SomeChange : Ranking → List ℕ → List ℕ → Type 0

@@ -1,2 +1,3 @@
 pub mod Cases
 pub mod Members
+pub mod States

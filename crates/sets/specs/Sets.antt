@@ -1,6 +1,6 @@
 -- Sets of numbers, held as lists: only which numbers stand there counts, neither their order nor repeats.
 use Prim.Native.Nat.{ℕ}
-use mathlib.Core.Bool.{Bool, true, false, _||_}
+use mathlib.Core.Bool.{Bool, true, false, cond, _||_}
 use mathlib.Core.List.{List, [], _∷_}
 use mathlib.Core.Path.{_≡_}
 use lib.Dec.{eqb}
@@ -17,3 +17,9 @@ Within m l = (x : ℕ) → member x m ≡ true → member x l ≡ true
 -- the two have the same members
 abbrev pub SameSet : List ℕ → List ℕ → Type 0
 SameSet l m = (x : ℕ) → member x l ≡ member x m
+
+-- the servers that are in a state: those at whose place the second list has k
+unfoldable pub inState : ℕ → List ℕ → List ℕ → List ℕ
+inState k [] xs = []
+inState k (s ∷ ss) [] = []
+inState k (s ∷ ss) (x ∷ xs) = cond (eqb x k) (s ∷ inState k ss xs) (inState k ss xs)

@@ -1,4 +1,4 @@
--- `settings::named` meets its contract.
+-- `named`: the method is the first byte, the row count what the next two spell.
 use borrow.Author.Needs.{needs}
 use Rattle.settings.proofs.named.Statement.{statement}
 use Rattle.settings.proofs.named.Tie as tie

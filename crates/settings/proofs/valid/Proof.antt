@@ -1,4 +1,4 @@
--- `settings::valid` meets its contract.
+-- `valid`: each return is a case of the definition.
 use borrow.Author.Tests.{eq-eqb, ne-eqb, le-leb, lt-leb}
 use Rattle.settings.specs.Settings.{valid}
 use Rattle.settings.proofs.valid.Statement.{statement}

@@ -1,12 +1,11 @@
--- `settings::well_formed` meets its contract.
+-- `well_formed`: the filler from byte 3 on, then whether the named settings are valid.
 use Prim.Native.Nat.{ℕ}
 use mathlib.Core.Bool.{Bool, true, false}
 use mathlib.Core.List.{List}
-use mathlib.Core.Path.{_≡_}
+use mathlib.Core.Path.{_≡_, sym, ap, _∙_}
 use native.Mathlib.Omega.{arith}
 use lib.ListN.{length, take, drop, length-drop}
 use Rattle.spans.specs.Spans.{allZero}
-use mathlib.Core.Path.{_∙_, sym, ap}
 use lib.Seq.{take-all}
 use borrow.Author.Tests.{not-true, not-false}
 use Rattle.settings.specs.Settings.{valid, wellFormed}

@@ -1,0 +1,40 @@
+-- Two events that are told the same are the same, so no second answer keeps the promise of `read`.
+use Prim.Native.Nat.{ℕ}
+use mathlib.Core.Bool.{cond}
+use mathlib.Core.List.{List}
+use mathlib.Core.Path.{_≡_, refl, sym, ap, _∙_}
+use lib.Dec.{eqb}
+use Rattle.event.specs.declared.Ask.{Ask}
+use Rattle.event.specs.declared.Ask.the-variants.{Packet, End, AddWorking, RemoveWorking, AddHorizon, RemoveHorizon, Configure, Refused}
+use Rattle.event.specs.declared.Event.{Event}
+use Rattle.event.specs.Event.{Asked, toldAs, told, eventIn}
+
+-- what was asked, by the kind number under which it was told
+abbrev askBy : ℕ → Asked → Ask
+askBy kind a =
+    cond (eqb kind 1) Packet
+    (cond (eqb kind 2) End
+    (cond (eqb kind 3) (AddWorking (a .server))
+    (cond (eqb kind 4) (RemoveWorking (a .server))
+    (cond (eqb kind 5) (AddHorizon (a .server))
+    (cond (eqb kind 6) (RemoveHorizon (a .server))
+    (cond (eqb kind 7) (Configure (a .settings)) (Refused (a .refusal))))))))
+
+abbrev back : Asked → Event
+back a = record { ask = askBy (a .kind) a; key = a .key }
+
+back-as : (x : Ask) (k : List ℕ) → back (toldAs x k) ≡ record { ask = x; key = k }
+back-as Packet k = refl
+back-as End k = refl
+back-as (AddWorking s) k = refl
+back-as (RemoveWorking s) k = refl
+back-as (AddHorizon s) k = refl
+back-as (RemoveHorizon s) k = refl
+back-as (Configure c) k = refl
+back-as (Refused n) k = refl
+
+pub told-apart : (x y : Event) → told x ≡ told y → x ≡ y
+told-apart x y e = sym (back-as (x .ask) (x .key)) ∙ ap back e ∙ back-as (y .ask) (y .key)
+
+pub read-unique : (bytes : List ℕ) (x y : Event) → told x ≡ eventIn bytes → told y ≡ eventIn bytes → x ≡ y
+read-unique bytes x y p q = told-apart x y (p ∙ sym q)
