@@ -34,17 +34,21 @@ pub member-placed : (x s : ℕ) (l : List ℕ) → member x (placed s l) ≡ mem
 unfolding placed
 member-placed x s [] = refl
 member-placed x s (y ∷ l) =
-    both (standsBefore y s) (λ t. rw (t, member-placed x s l) (or-swap (eqb x y) (eqb x s) (member x l))) (λ t. rw t)
+    both
+    (standsBefore y s)
+    (λ t. rw (t, member-placed x s l) (or-swap (eqb x y) (eqb x s) (member x l)))
+    (λ t. rw (t, member-placed x y l))
 
 pub member-arranged : (x : ℕ) (l : List ℕ) → member x (arranged l) ≡ member x l
 unfolding arranged
 member-arranged x [] = refl
 member-arranged x (s ∷ l) = member-placed x s (arranged l) ∙ rw (member-arranged x l)
 
-length-placed : (s : ℕ) (l : List ℕ) → length (placed s l) ≡ suc (length l)
+pub length-placed : (s : ℕ) (l : List ℕ) → length (placed s l) ≡ suc (length l)
 unfolding placed
 length-placed s [] = refl
-length-placed s (x ∷ l) = both (standsBefore x s) (λ t. rw t (ap suc (length-placed s l))) (λ t. rw t)
+length-placed s (x ∷ l) =
+    both (standsBefore x s) (λ t. rw t (ap suc (length-placed s l))) (λ t. rw t (ap suc (length-placed x l)))
 
 pub length-arranged : (l : List ℕ) → length (arranged l) ≡ length l
 unfolding arranged
@@ -65,8 +69,16 @@ ordered-placed s (y ∷ l) o =
     ))
     (
     λ t. rw
-    t
-    (λ x m. member-cases x y l m (λ q. rw q t) (λ q. under-under standsBefore strict x y s (o .0 x q) t), o))
+    t (
+      λ x m. member-cases
+          x
+          y
+          l
+          (rw (member-placed x y l) at m)
+          (λ q. rw q t)
+          (λ q. under-under standsBefore strict x y s (o .0 x q) t),
+      ordered-placed y l (o .1),
+    ))
 
 pub ordered : (l : List ℕ) → Ordered (arranged l)
 unfolding arranged

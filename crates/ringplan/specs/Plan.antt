@@ -2,7 +2,8 @@
 use Prim.Native.Nat.{ℕ, _-_}
 use mathlib.Core.Bool.{Bool, true, false, cond}
 use mathlib.Core.List.{List, [], _∷_, _++_, map}
-use lib.ListN.{length, take, drop, replicate}
+use lib.Dec.{leb}
+use lib.ListN.{length, drop, replicate}
 use Rattle.hash.specs.Hash.{position}
 use Rattle.sets.specs.Sets.{member}
 use Rattle.ranking.specs.Ranking.{Ranking, choice}
@@ -14,10 +15,10 @@ use Rattle.ring.specs.Ring.{blank}
 abbrev pub standsBefore : Ranking
 standsBefore = byDistance position
 
--- servers put in that order, one after the other
+-- a server put among others: of it and their first, the one that stands before goes in front, and the other among the rest
 unfoldable pub placed : ℕ → List ℕ → List ℕ
 placed s [] = s ∷ []
-placed s (x ∷ l) = cond (standsBefore x s) (x ∷ placed s l) (s ∷ x ∷ l)
+placed s (x ∷ l) = cond (standsBefore x s) (x ∷ placed s l) (s ∷ placed x l)
 
 unfoldable pub arranged : List ℕ → List ℕ
 arranged [] = []
@@ -46,6 +47,7 @@ entries held working = map (entryOf working) (arranged held)
 unfoldable pub drawn : List ℕ → List ℕ → List Entry → List Entry
 drawn held working old = entries held working ++ drop (length held) old
 
--- the entries laid out in a plan of 64 places, blank behind them
+-- the entries laid out in a plan of 64 places, blank behind them; a plan for more servers is blank
 unfoldable pub planned : List ℕ → List ℕ → List Entry
-planned held working = take 64 (entries held working ++ replicate 64 blank)
+planned held working =
+    cond (leb (length held) 64) (entries held working ++ replicate (64 - length held) blank) (replicate 64 blank)

@@ -1,0 +1,67 @@
+-- `ringplan::arrange` meets its contract.
+use Prim.Native.Nat.{_-_}
+use native.Mathlib.Omega.{arith}
+use Rattle.ringplan.proofs.Planning.{Arranging, arranging-none, arranging-more, arranging-done}
+use borrow.Author.Needs.{needs}
+use Rattle.ringplan.proofs.arrange.Statement.{statement}
+use Rattle.ringplan.proofs.arrange.Tie as tie
+
+abbrev Inv-loop : tie.InvT-loop
+Inv-loop servers order₀ n₀ i₀ order n i = Arranging servers order n i
+
+abbrev μ-loop : tie.MeasureT-loop
+μ-loop servers order₀ n₀ i₀ order n i = i
+
+loop-holds : tie.Need-loop-holds Inv-loop μ-loop
+loop-holds c = arranging-none (c .before .args .servers .now) _ (search needs)
+
+sub-i : tie.Need-sub-i Inv-loop μ-loop
+sub-i c = search needs
+
+slice-aggregate-place : tie.Need-slice-aggregate-place Inv-loop μ-loop
+slice-aggregate-place c = search needs
+
+mul-place : tie.Need-mul-place Inv-loop μ-loop
+mul-place c = search needs
+
+shared-slice-read-place : tie.Need-shared-slice-read-place Inv-loop μ-loop
+shared-slice-read-place c = search needs
+
+place-requires : tie.Need-place-requires Inv-loop μ-loop
+place-requires c κs = search needs
+
+add-n : tie.Need-add-n Inv-loop μ-loop
+add-n c = search needs
+
+loop-less : tie.Need-loop-less Inv-loop μ-loop
+loop-less c = search needs
+
+loop-again : tie.Need-loop-again Inv-loop μ-loop
+loop-again c =
+    let pl = c .before in
+    let l = pl .before .before .before .before in
+    let p = l .before .before .args in
+    arranging-more (p .servers .now) (l .loop .order) _ (l .loop .n) (l .loop .i) (omega arith) (l .loop .inv) (pl .place .kept .0) (pl .place .ensures)
+
+returns : tie.Need-returns Inv-loop μ-loop
+returns c =
+    let l = c .before in
+    let p = l .before .before .args in
+    arranging-done (p .servers .now) (l .loop .order) (l .loop .n) (l .loop .i) (omega arith) (l .loop .inv)
+
+pub arrange-spec : {M : Type 1} → statement M
+arrange-spec =
+    tie.close
+    (tie.spec
+    Inv-loop
+    μ-loop
+    loop-holds
+    sub-i
+    slice-aggregate-place
+    mul-place
+    shared-slice-read-place
+    place-requires
+    add-n
+    loop-less
+    loop-again
+    returns)

@@ -1,0 +1,9 @@
+pub mod Places
+pub mod Moves
+pub mod Parts
+pub mod Packing
+pub mod Removals
+pub mod Records
+pub mod Finds
+pub mod Stray
+pub mod Unique

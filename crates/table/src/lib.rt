@@ -1,0 +1,179 @@
+// The tracking table: records of 20 bytes in a lent buffer. Places are counted from 1.
+ghost use mathlib.Core.Path.{_≡_};
+ghost use mathlib.Core.List.{_++_};
+ghost use Prim.Native.Nat.{_+_, _*_, _-_, _<_, _≤_};
+ghost use lib.ListN.{length, take, drop, replicate};
+ghost use lib.Seq.{paste};
+ghost use Rattle.table.specs.Table.{usedTag, used as used-of, find as find-of, told, serverAt, newRecord, writtenAfter, removed, removedServer, started};
+
+// Where a key's record is, or, where it has none, how many records are used: either way the number of used records read.
+pub enum Found {
+    At(usize),
+    Nothing(usize),
+}
+
+// How many records are used.
+pub fn used(table: &[u8]) -> usize
+    ensures { λ r. ⌜ r ≡ used-of (now (table .entry)) ⌝ }
+{
+    let room = table.len() / 20;
+    let mut i = 0;
+    while i < room {
+        if !used_tag(table[i * 20 + 13]) {
+            return i;
+        }
+        i += 1;
+    }
+    i
+}
+
+// The first used record with a key.
+pub fn find(table: &[u8], key: [u8; 13]) -> Found
+    ensures { λ r. ⌜ told r ≡ find-of key (now (table .entry)) ⌝ }
+{
+    let room = table.len() / 20;
+    let mut i = 0;
+    while i < room {
+        let at = i * 20;
+        if !used_tag(table[at + 13]) {
+            return Found::Nothing(i);
+        }
+        if spans::same(&table[at..at + 13], &key) {
+            return Found::At(i + 1);
+        }
+        i += 1;
+    }
+    Found::Nothing(i)
+}
+
+// The server that the record at a place names, 0 where there is no such place.
+pub fn server_at(table: &[u8], place: usize) -> u32
+    ensures { λ r. ⌜ r ≡ serverAt place (now (table .entry)) ⌝ }
+{
+    if place == 0 {
+        return 0;
+    }
+    if table.len() / 20 < place {
+        return 0;
+    }
+    let at = (place - 1) * 20;
+    bigendian::join4(
+        table[at + 16],
+        table[at + 17],
+        table[at + 18],
+        table[at + 19],
+    )
+}
+
+// Writes a new record behind the first n; where n is the number of used records, that is the first
+// unused place. A table without that place stays as it is.
+pub fn write_after(table: &mut [u8], n: usize, key: [u8; 13], server: u32)
+    ensures { λ _. ⌜ now (table .exit) ≡ writtenAfter n key server (now (table .entry)) ⌝ }
+{
+    if table.len() / 20 <= n {
+        return;
+    }
+    let a = n * 20;
+    let e = a + 20;
+    put(&mut table[a..e], key, server);
+}
+
+// Takes the record at a place away and closes the gap. A place outside the used part removes nothing.
+pub fn remove(table: &mut [u8], place: usize)
+    ensures { λ _. ⌜ now (table .exit) ≡ removed place (now (table .entry)) ⌝ }
+{
+    let n = used(table);
+    if place == 0 {
+        return;
+    }
+    if n < place {
+        return;
+    }
+    close_gap(table, place - 1, n);
+}
+
+// Takes away every record that names a server: in one pass the others move up behind each other, and what they leave is zeroed.
+pub fn remove_server(table: &mut [u8], server: u32)
+    ensures { λ _. ⌜ now (table .exit) ≡ removedServer server (now (table .entry)) ⌝ }
+{
+    let n = used(table);
+    let mut kept = 0;
+    let mut i = 0;
+    while i < n {
+        if server_at(table, i + 1) != server {
+            keep(table, i, kept);
+            kept += 1;
+        }
+        i += 1;
+    }
+    let a = kept * 20;
+    let e = n * 20;
+    spans::clear(&mut table[a..e]);
+}
+
+// Zeroes the whole table.
+pub fn start(table: &mut [u8])
+    ensures { λ _. ⌜ now (table .exit) ≡ started (now (table .entry)) ⌝ }
+{
+    spans::clear(table);
+}
+
+// Whether a record with this tag is used.
+fn used_tag(tag: u8) -> bool
+    ensures { λ r. ⌜ r ≡ usedTag tag ⌝ }
+{
+    tag == 1
+}
+
+// Copies a key to the front of a span.
+fn put_key(s: &mut [u8], key: [u8; 13])
+    requires { ⌜ 13 ≤ length (now s) ⌝ }
+    ensures { λ _. ⌜ now (s .exit) ≡ key ++ drop 13 (now (s .entry)) ⌝ }
+{
+    let mut i = 0;
+    while i < 13 {
+        s[i] = key[i];
+        i += 1;
+    }
+}
+
+// Fills a place with a new record: the key, tag 1, two zeros, the server's four bytes.
+fn put(s: &mut [u8], key: [u8; 13], server: u32)
+    requires { ⌜ length (now s) ≡ 20 ⌝ }
+    ensures { λ _. ⌜ now (s .exit) ≡ newRecord key server ⌝ }
+{
+    let b = bigendian::split4(server);
+    put_key(s, key);
+    s[13] = 1;
+    s[14] = 0;
+    s[15] = 0;
+    s[16] = b[0];
+    s[17] = b[1];
+    s[18] = b[2];
+    s[19] = b[3];
+}
+
+// Takes the record with index i, counted from 0, out of the first n: those behind it move up, and the last place is zeroed.
+fn close_gap(table: &mut [u8], i: usize, n: usize)
+    requires { ⌜ (i < n) × (n * 20 ≤ length (now table)) ⌝ }
+    ensures { λ _. ⌜ now (table .exit)
+        ≡ take (i * 20) (now (table .entry)) ++ ((drop 20 (take (n * 20 - i * 20) (drop (i * 20) (now (table .entry)))) ++ replicate 20 0) ++ drop (n * 20) (now (table .entry))) ⌝ }
+{
+    let a = i * 20;
+    let e = n * 20;
+    spans::close(&mut table[a..e], 20);
+}
+
+// Copies the record with index i, counted from 0, to index w, which is no later.
+fn keep(table: &mut [u8], i: usize, w: usize)
+    requires { ⌜ (w ≤ i) × (i * 20 + 20 ≤ length (now table)) ⌝ }
+    ensures { λ _. ⌜ now (table .exit) ≡ paste (now (table .entry)) (w * 20) (drop (i * 20) (now (table .entry))) 20 ⌝ }
+{
+    let from = i * 20;
+    let to = w * 20;
+    let mut k = 0;
+    while k < 20 {
+        table[to + k] = table[from + k];
+        k += 1;
+    }
+}
