@@ -1,0 +1,14 @@
+pub mod Scans
+pub mod Moves
+pub mod Places
+pub mod Rising
+pub mod States
+pub mod InState
+pub mod Held
+pub mod Form
+pub mod Changes
+pub mod Removed
+pub mod Sets
+pub mod SetChanges
+pub mod Bounds
+pub mod Unique
