@@ -1,0 +1,5 @@
+pub mod ByKind
+pub mod OfPackets
+pub mod Rosters
+pub mod OfLooking
+pub mod Whole

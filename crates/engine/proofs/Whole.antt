@@ -1,0 +1,169 @@
+-- The parts put together are the rules: a look, the ring's entry read for it, the reaction and the ring drawn for it are `eventOf`.
+use Prim.Native.Nat.{ℕ, _%_, _≤_, min}
+use mathlib.Core.Bool.{Bool, true, false, cond, not, _&&_, _||_}
+use mathlib.Core.List.{List}
+use mathlib.Core.Path.{_≡_, refl, sym, ap, _∙_}
+use native.Mathlib.Omega.{arith}
+use lib.Dec.{eqb, leb}
+use lib.ListN.{length, length-take}
+use borrow.Author.Tests.{eqb-true, eqb-false}
+use Rattle.hash.specs.Hash.{F}
+use Rattle.sets.proofs.Cases.{both, clash}
+use Rattle.ranking.specs.declared.Pick.{Pick}
+use Rattle.roster.specs.declared.Roster.{Roster}
+use Rattle.roster.specs.Roster.{sound, heldServers, workingSet}
+use Rattle.event.specs.Event.{Asked, eventIn}
+use Rattle.event.specs.Event.{told as told-event}
+use Rattle.table.specs.Table.{Finding, find}
+use Rattle.table.specs.Table.{told as told-found}
+use Rattle.ring.specs.declared.Entry.{Entry}
+use Rattle.ring.specs.Ring.{entryRead}
+use Rattle.ringplan.specs.Plan.{drawn}
+use Rattle.ringplan.proofs.Planning.{overlaid-drawn}
+use Rattle.rules.specs.declared.Outcome.{Outcome}
+use Rattle.rules.specs.Rules.{State, Change, Done, is, sizesRight, admitted, judged, barred, effect, packet, end, pickBy, sizedFor, settled, done, startDone, startOf, eventOf}
+use Rattle.engine.specs.declared.Seen.{Seen}
+use Rattle.engine.specs.declared.Reaction.{Reaction}
+use Rattle.engine.specs.Looking.{Looked, seenAs, nothingFound, foundBy, unrecorded, lookOf, stateWith, reacted, redrawn, Begun, begun, beginOf}
+
+-- what is found and picked matters only where the kind looks at it
+module _ (e : Asked) (st : State) where
+  found-free : (found found′ : Finding) (p : Pick) → is 1 e ≡ false → is 2 e ≡ false → judged e found p st ≡ judged e found′ p st
+  unfolding judged barred effect
+  found-free found found′ p a b = rw (a, b)
+
+  pick-free : (found : Finding) (p q : Pick) → is 1 e ≡ false → judged e found p st ≡ judged e found q st
+  unfolding judged barred effect
+  pick-free found p q a = rw a
+
+  pick-known : (found : Finding) (p q : Pick) → found .found ≡ true → judged e found p st ≡ judged e found q st
+  unfolding judged barred effect packet
+  pick-known found p q a = rw a
+
+-- the ring's entry matters only under method 2
+pick-spot : (f : ℕ) (s s′ : Entry) (st : State) → eqb (st .roster .settings .method) 2 ≡ false → pickBy f s st ≡ pickBy f s′ st
+unfolding pickBy
+pick-spot f s s′ st n = rw n
+
+-- so what a look finds is enough
+module _ (e : Asked) (t rows flags : List ℕ) (r : Roster) (ring : List Entry) where
+  looked-enough : let st = stateWith t rows flags r in
+      let l = lookOf e t r in
+      judged e (l .found) (pickBy (l .f) (entryRead (l .places) (l .f) ring) st) st
+      ≡ judged e (find (e .key) t) (pickBy (F (e .key)) (entryRead (r .held) (F (e .key)) ring) st) st
+  unfolding lookOf
+  looked-enough =
+      let st = stateWith t rows flags r in
+      both
+      (is 1 e)
+      (
+      λ p. both
+      (find (e .key) t .found)
+      (λ k. rw p (pick-known e st (find (e .key) t) _ _ k))
+      (
+      λ k. both
+      (eqb (r .settings .method) 2)
+      (λ m. rw (p, k, m))
+      (
+      λ m. rw
+      (p, k, m)
+      (ap
+      (λ (x : Pick). judged e (record { found = false; reads = find (e .key) t .reads }) x st)
+      (pick-spot (F (e .key)) (entryRead 0 (F (e .key)) ring) (entryRead (r .held) (F (e .key)) ring) st m)))))
+      (
+      λ p. both
+      (is 2 e)
+      (λ q. rw (p, q) (pick-free e st (find (e .key) t) _ _ p))
+      (λ q. rw (p, q) (found-free e st _ (find (e .key) t) _ p q ∙ pick-free e st (find (e .key) t) _ _ p)))
+
+-- a refused event draws no ring: where the ring is drawn, every buffer has its length
+redraw-sized : (sized rosterSound : Bool) (e : Asked) (found : Finding) (p : Pick) (st : State)
+    → judged (admitted sized rosterSound e) found p st .redraw ≡ true → sized ≡ true
+unfolding admitted judged
+redraw-sized true rosterSound e found p st q = refl
+redraw-sized false rosterSound e found p st q = clash q refl
+
+ring-64 : (a b c d : ℕ) → sizesRight a b c d ≡ true → d ≡ 64
+unfolding sizesRight
+ring-64 a b c d e =
+    both
+    (eqb d 64)
+    (λ t. eqb-true d 64 t)
+    (
+    λ t. both
+    (eqb a 0)
+    (λ u. clash (rw u at e) refl)
+    (
+    λ u. both
+    (leb a 65520)
+    (
+    λ v. both
+    (eqb (a % 20) 0)
+    (
+    λ w. both
+    (eqb b 4096)
+    (
+    λ x. both
+    (eqb c 4096)
+    (λ y. clash (rw (u, v, w, x, y, t) at e) refl)
+    (λ y. clash (rw (u, v, w, x, y) at e) refl))
+    (λ x. clash (rw (u, v, w, x) at e) refl))
+    (λ w. clash (rw (u, v, w) at e) refl))
+    (λ v. clash (rw (u, v) at e) refl)))
+
+-- the ring drawn in code is the ring drawn by the rules
+pub redrawn-is : (wanted : Bool) (r : Roster) (ring : List Entry) → length (r .servers) ≡ 64 → (wanted ≡ true → length ring ≡ 64)
+    → redrawn wanted r ring ≡ cond wanted (drawn (heldServers r) (workingSet r) ring) ring
+unfolding redrawn
+redrawn-is false r ring n h = refl
+redrawn-is true r ring n h =
+    let l : length (heldServers r) ≡ min (r .held) 64 = length-take (r .held) (r .servers) ∙ rw n in
+    rw (← l) (overlaid-drawn (heldServers r) (workingSet r) ring (omega arith) (omega (arith, h refl)))
+
+module _ (bytes t rows flags : List ℕ) (ring : List Entry) (r : Roster) where
+  abbrev admittedHere : Asked
+  admittedHere = admitted (sizesRight (length t) (length rows) (length flags) (length ring)) (sound r) (eventIn bytes)
+
+  abbrev judgedHere : Change
+  judgedHere =
+      judged
+      admittedHere
+      (find (admittedHere .key) t)
+      (pickBy (F (admittedHere .key)) (entryRead (r .held) (F (admittedHere .key)) ring) (stateWith t rows flags r))
+      (stateWith t rows flags r)
+
+  -- THE WHOLE: what the four calls of `event` promise, together
+  pub whole-event : (seen : Seen) (spot : Entry) (out : Reaction) (t′ rows′ flags′ : List ℕ) (ring′ : List Entry)
+      → length (out .roster .servers) ≡ 64
+      → seenAs seen ≡ lookOf admittedHere t r
+      → spot ≡ entryRead (seen .places) (seen .f) ring
+      → reacted out t′ rows′ flags′
+      ≡ judged (told-event (seen .event)) (told-found (seen .found)) (pickBy (seen .f) spot (stateWith t rows flags r)) (stateWith t rows flags r)
+      → ring′ ≡ redrawn (out .redraw) (out .roster) ring
+      → done (record { reply = out .reply; roster = out .roster }) t′ rows′ flags′ ring′ ≡ eventOf bytes (stateWith t rows flags r) ring
+  unfolding eventOf lookOf
+  whole-event seen spot out t′ rows′ flags′ ring′ n look read react draw =
+      let st = stateWith t rows flags r in
+      let seen-is : judged (seenAs seen .asked) (seenAs seen .found) (pickBy (seenAs seen .f) (entryRead (seenAs seen .places) (seenAs seen .f) ring) st) st ≡ judgedHere =
+      ap (λ (l : Looked). judged (l .asked) (l .found) (pickBy (l .f) (entryRead (l .places) (l .f) ring) st) st) look
+      ∙ looked-enough admittedHere t rows flags r ring in
+      let change : reacted out t′ rows′ flags′ ≡ judgedHere =
+      react
+      ∙ ap (λ (x : Entry). judged (told-event (seen .event)) (told-found (seen .found)) (pickBy (seen .f) x st) st) read
+      ∙ seen-is in
+      let sized : out .redraw ≡ true → length ring ≡ 64 =
+      λ q. ring-64 _ _ _ _ (redraw-sized _ (sound r) (eventIn bytes) _ _ st (ap (λ (c : Change). c .redraw) (sym change) ∙ q)) in
+      ap
+      (λ (es : List Entry). done (record { reply = out .reply; roster = out .roster }) t′ rows′ flags′ es)
+      (draw ∙ redrawn-is (out .redraw) (out .roster) ring n sized)
+      ∙ ap (λ (c : Change). settled c ring) change
+
+  -- the start, likewise
+  pub whole-start : (o : Outcome) (t′ : List ℕ) → begun o t′ ≡ beginOf t (length rows) (length flags) (length ring) r
+      → done o t′ rows flags ring ≡ startDone (stateWith t rows flags r) ring
+  unfolding beginOf startOf
+  whole-start o t′ e =
+      both
+      (sizesRight (length t) (length rows) (length flags) (length ring))
+      (λ s. rw s (ap (λ (b : Begun). record { told = b .told; table = b .table; rows = rows; flags = flags; ring = ring; roster = b .roster }) (rw s at e)))
+      (λ s. rw s (ap (λ (b : Begun). record { told = b .told; table = b .table; rows = rows; flags = flags; ring = ring; roster = b .roster }) (rw s at e)))

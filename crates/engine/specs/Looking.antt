@@ -1,0 +1,84 @@
+-- How the engine is cut, so that it never sees the ring: what a look at the record finds before the ring is read, and what the reaction
+-- hands back for the ring to be drawn from. `eventOf` is put together from these (proofs/Whole.antt).
+use Prim.Native.Nat.{ℕ, min}
+use mathlib.Core.Bool.{Bool, true, false, cond, not, _&&_, _||_}
+use mathlib.Core.List.{List}
+use lib.Dec.{eqb}
+use lib.ListN.{length}
+use Rattle.hash.specs.Hash.{F}
+use Rattle.ranking.specs.declared.Pick.{Pick}
+use Rattle.roster.specs.declared.Roster.{Roster}
+use Rattle.roster.specs.Roster.{working, stateOf, heldServers, workingSet, emptyRoster}
+use Rattle.event.specs.Event.{Asked}
+use Rattle.event.specs.Event.{told as told-event}
+use Rattle.table.specs.Table.{Finding, find, started}
+use Rattle.table.specs.Table.{told as told-found}
+use Rattle.ring.specs.declared.Entry.{Entry}
+use Rattle.ring.specs.Ring.{overlaid}
+use Rattle.ringplan.specs.Plan.{planned}
+use Rattle.engine.specs.declared.Seen.{Seen}
+use Rattle.engine.specs.declared.Reaction.{Reaction}
+use Rattle.rules.specs.declared.Outcome.{Outcome}
+use Rattle.rules.specs.Answer.{Told, accepts, refuses, told}
+use Rattle.rules.specs.Rules.{State, Change, is, target, packet, refused, sizesRight}
+
+-- the event, the key's record, F of the key, and how many ring entries are to be searched
+pub record Looked : Type 0 where
+  pub asked : Asked
+  pub found : Finding
+  pub f : ℕ
+  pub places : ℕ
+
+abbrev pub seenAs : Seen → Looked
+seenAs s = record { asked = told-event (s .event); found = told-found (s .found); f = s .f; places = s .places }
+
+abbrev pub nothingFound : Finding
+nothingFound = record { found = false; reads = 0 }
+
+-- only packets and ends look for a record
+abbrev pub foundBy : Asked → List ℕ → Finding
+foundBy e t = cond (is 1 e) (find (e .key) t) (cond (is 2 e) (find (e .key) t) nothingFound)
+
+-- only a packet without a record needs F of its key, and of the ring's entries those in use under method 2
+abbrev pub unrecorded : Asked → List ℕ → Bool
+unrecorded e t = cond (is 1 e) (not (find (e .key) t .found)) false
+
+unfoldable pub lookOf : Asked → List ℕ → Roster → Looked
+lookOf e t r =
+    record {
+      asked = e;
+      found = foundBy e t;
+      f = cond (unrecorded e t) (F (e .key)) 0;
+      places = cond (unrecorded e t) (cond (eqb (r .settings .method) 2) (r .held) 0) 0;
+    }
+
+-- a state of separate buffers, and a reaction with the buffers that it leaves
+abbrev pub stateWith : List ℕ → List ℕ → List ℕ → Roster → State
+stateWith t rows flags r = record { table = t; rows = rows; flags = flags; roster = r }
+
+abbrev pub reacted : Reaction → List ℕ → List ℕ → List ℕ → Change
+reacted v t rows flags = record { told = told (v .reply); state = stateWith t rows flags (v .roster); redraw = v .redraw }
+
+-- a packet once it is known that some server works: refusal 8 is left
+unfoldable pub led : List ℕ → Finding → Pick → State → Change
+led key found pick st =
+    cond (eqb (stateOf (target found pick st) (st .roster)) working) (packet key found pick st) (refused 8 st)
+
+-- a start, without rows, flags and ring, of which only the lengths count
+pub record Begun : Type 0 where
+  pub told : Told
+  pub table : List ℕ
+  pub roster : Roster
+
+abbrev pub begun : Outcome → List ℕ → Begun
+begun o t = record { told = told (o .reply); table = t; roster = o .roster }
+
+unfoldable pub beginOf : List ℕ → ℕ → ℕ → ℕ → Roster → Begun
+beginOf t rows flags ring r =
+    cond (sizesRight (length t) rows flags ring)
+    (record { told = accepts 0 0 0; table = started t; roster = emptyRoster })
+    (record { told = refuses 9; table = t; roster = r })
+
+-- the ring drawn anew for a roster, where that is wanted
+unfoldable pub redrawn : Bool → Roster → List Entry → List Entry
+redrawn wanted r es = cond wanted (overlaid (planned (heldServers r) (workingSet r)) (min (r .held) 64) es) es

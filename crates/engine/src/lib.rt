@@ -1,0 +1,113 @@
+// The engine: what an event does to the lent table, rows and flags and to the roster. It never sees the
+// ring: `look` says what is to be read from it, `react` is handed the entry read, and says whether
+// the ring is to be drawn anew.
+mod arms;
+mod looking;
+mod packets;
+
+use event::Ask;
+use event::Event;
+use ring::Entry;
+use roster::Roster;
+use rules::Outcome;
+use rules::Reply;
+use table::Found;
+ghost use mathlib.Core.Path.{_≡_};
+ghost use lib.ListN.{length};
+ghost use Rattle.event.specs.Event.{eventIn, told as told-event};
+ghost use Rattle.table.specs.Table.{told as told-found};
+ghost use Rattle.roster.specs.Roster.{sound as sound-of, heldServers, workingSet};
+ghost use Rattle.ringplan.specs.Plan.{planned};
+ghost use Rattle.rules.specs.Rules.{sizesRight, admitted, judged, pickBy};
+ghost use Rattle.engine.specs.Looking.{lookOf, seenAs, stateWith, reacted, begun, beginOf};
+
+// What a look at an event record finds before the ring is read.
+pub struct Seen {
+    pub event: Event,
+    pub found: Found,
+    pub f: u32,
+    pub places: usize,
+}
+
+// What the reaction hands back: the answer, the roster afterwards, and whether the ring is drawn anew.
+pub struct Reaction {
+    pub reply: Reply,
+    pub roster: Roster,
+    pub redraw: bool,
+}
+
+// Reads the event record, tests what can be refused at once, and looks for the key's record.
+pub fn look(
+    bytes: &[u8],
+    table: &[u8],
+    rows: usize,
+    flags: usize,
+    ring: usize,
+    roster: Roster,
+) -> Seen
+    ensures { λ s. ⌜ seenAs s ≡ lookOf (admitted (sizesRight (length (now (table .entry))) rows flags ring) (sound-of roster) (eventIn (now (bytes .entry)))) (now (table .entry)) roster ⌝ }
+{
+    let event = looking::admit(bytes, table.len(), rows, flags, ring, roster);
+    looking::seek(event, table, roster)
+}
+
+// Does what the event asks to table, rows and flags; `spot` is the ring's entry that was read for it.
+pub fn react(
+    seen: Seen,
+    spot: Entry,
+    table: &mut [u8],
+    rows: &mut [u32],
+    flags: &mut [u8],
+    roster: Roster,
+) -> Reaction
+    ensures { λ v. ⌜ reacted v (now (table .exit)) (now (rows .exit)) (now (flags .exit))
+        ≡ judged (told-event (seen .event)) (told-found (seen .found))
+        (pickBy (seen .f) spot (stateWith (now (table .entry)) (now (rows .entry)) (now (flags .entry)) roster))
+        (stateWith (now (table .entry)) (now (rows .entry)) (now (flags .entry)) roster) ⌝ }
+{
+    let event = seen.event;
+    let ask = event.ask;
+    let key = event.key;
+    let found = seen.found;
+    match ask {
+        Ask::Packet => packets::packet(key, found, seen.f, spot, table, rows, flags, roster),
+        Ask::End => arms::end(found, table, roster),
+        Ask::AddWorking(server) => arms::add_working(server, rows, flags, roster),
+        Ask::RemoveWorking(server) => arms::remove_working(server, table, rows, flags, roster),
+        Ask::AddHorizon(server) => arms::add_horizon(server, rows, flags, roster),
+        Ask::RemoveHorizon(server) => arms::remove_horizon(server, rows, flags, roster),
+        Ask::Configure(settings) => arms::configure(settings, table, rows, flags, roster),
+        Ask::Refused(number) => arms::refused(number, roster),
+    }
+}
+
+// Starts on a lent table: refused only by 9, else the table is zeroed and the roster is empty.
+pub fn begin(table: &mut [u8], rows: usize, flags: usize, ring: usize, roster: Roster) -> Outcome
+    ensures { λ o. ⌜ begun o (now (table .exit)) ≡ beginOf (now (table .entry)) rows flags ring roster ⌝ }
+{
+    if !looking::sizes_right(table.len(), rows, flags, ring) {
+        return Outcome {
+            reply: Reply::Refused(9),
+            roster: roster,
+        };
+    }
+    table::start(table);
+    Outcome {
+        reply: Reply::Accepted {
+            server: 0,
+            mark: 0,
+            reads: 0,
+        },
+        roster: roster::empty(),
+    }
+}
+
+// The plan of the ring for a roster.
+pub fn plan_of(r: Roster) -> [Entry; 64]
+    ensures { λ p. ⌜ p ≡ planned (heldServers r) (workingSet r) ⌝ }
+{
+    let n = roster::in_use(r.held);
+    let servers = r.servers;
+    let states = r.states;
+    ringplan::plan(&servers[..n], &states[..n])
+}
