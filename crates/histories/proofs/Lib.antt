@@ -1,0 +1,11 @@
+pub mod Sizes
+pub mod Refusals
+pub mod Recorded
+pub mod Drawing
+pub mod Inner
+pub mod Picking
+pub mod Barring
+pub mod Keeping
+pub mod Changing
+pub mod Along
+pub mod Never
