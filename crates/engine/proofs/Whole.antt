@@ -1,24 +1,25 @@
 -- The parts put together are the rules: a look, the ring's entry read for it, the reaction and the ring drawn for it are `eventOf`.
-use Prim.Native.Nat.{ℕ, _%_, _≤_, min}
+use Prim.Native.Nat.{ℕ, _%_, _≤_}
 use mathlib.Core.Bool.{Bool, true, false, cond, not, _&&_, _||_}
 use mathlib.Core.List.{List}
-use mathlib.Core.Path.{_≡_, refl, sym, ap, _∙_}
+use mathlib.Core.Path.{_≡_, refl, sym, ap, subst, _∙_}
 use native.Mathlib.Omega.{arith}
-use lib.Dec.{eqb, leb}
+use lib.Dec.{eqb, leb, ltb}
 use lib.ListN.{length, length-take}
-use borrow.Author.Tests.{eqb-true, eqb-false}
+use borrow.Author.Tests.{eqb-true, ltb-true}
 use Rattle.hash.specs.Hash.{F}
 use Rattle.sets.proofs.Cases.{both, clash}
 use Rattle.ranking.specs.declared.Pick.{Pick}
 use Rattle.roster.specs.declared.Roster.{Roster}
-use Rattle.roster.specs.Roster.{sound, heldServers, workingSet}
+use Rattle.roster.specs.Roster.{sound, heldServers, workingSet, placeOf, addedHorizon, removedHorizon}
+use Rattle.roster.proofs.Form.{sound-parts}
 use Rattle.event.specs.Event.{Asked, eventIn}
 use Rattle.event.specs.Event.{told as told-event}
-use Rattle.table.specs.Table.{Finding, find}
+use Rattle.table.specs.Table.{Finding, find, room}
 use Rattle.table.specs.Table.{told as told-found}
 use Rattle.ring.specs.declared.Entry.{Entry}
-use Rattle.ring.specs.Ring.{entryRead}
-use Rattle.ringplan.specs.Plan.{drawn}
+use Rattle.ring.specs.Ring.{entryRead, overlaid}
+use Rattle.ringplan.specs.Plan.{planned, drawn}
 use Rattle.ringplan.proofs.Planning.{overlaid-drawn}
 use Rattle.rules.specs.declared.Outcome.{Outcome}
 use Rattle.rules.specs.Rules.{State, Change, Done, is, sizesRight, admitted, judged, barred, effect, packet, end, pickBy, sizedFor, settled, done, startDone, startOf, eventOf}
@@ -111,14 +112,89 @@ ring-64 a b c d e =
     (λ w. clash (rw (u, v, w) at e) refl))
     (λ v. clash (rw (u, v) at e) refl)))
 
+redraw-sound : (sized rosterSound : Bool) (e : Asked) (found : Finding) (p : Pick) (st : State)
+    → judged (admitted sized rosterSound e) found p st .redraw ≡ true → rosterSound ≡ true
+unfolding admitted judged
+redraw-sound true true e found p st q = refl
+redraw-sound true false e found p st q = clash q refl
+redraw-sound false rosterSound e found p st q = clash q refl
+
+-- packets and ends draw no ring
+packet-still : (key : List ℕ) (found : Finding) (p : Pick) (st : State) → packet key found p st .redraw ≡ false
+unfolding packet
+packet-still key found p st =
+    both
+    (found .found)
+    (λ a. rw a)
+    (
+    λ a. both
+    (p .flag)
+    (λ b. both (ltb (found .reads) (room (st .table))) (λ d. rw (a, b, d)) (λ d. rw (a, b, d)))
+    (λ b. rw (a, b)))
+
+end-still : (found : Finding) (st : State) → end found st .redraw ≡ false
+unfolding end
+end-still found st = both (found .found) (λ a. rw a) (λ a. rw a)
+
+-- a roster of at most 64 servers stays one
+added-few : (s : ℕ) (r : Roster) → r .held ≤ 64 → addedHorizon s r .held ≤ 64
+unfolding addedHorizon
+added-few s r h = both (ltb (r .held) 64) (λ t. rw t (omega (arith, ltb-true (r .held) 64 t))) (λ t. rw t h)
+
+removed-few : (s : ℕ) (r : Roster) → r .held ≤ 64 → removedHorizon s r .held ≤ 64
+unfolding removedHorizon
+removed-few s r h =
+    both (ltb (placeOf s r) (length (heldServers r))) (λ t. rw t (omega arith)) (λ t. rw t h)
+
+-- where the ring is drawn, the roster afterwards holds at most 64
+redraw-few : (e : Asked) (found : Finding) (p : Pick) (st : State) → st .roster .held ≤ 64
+    → judged e found p st .redraw ≡ true → judged e found p st .state .roster .held ≤ 64
+unfolding judged effect
+redraw-few e found p st h q =
+    both
+    (is 0 e)
+    (λ a. clash (rw a at q) refl)
+    (
+    λ a. both
+    (eqb (barred e found p st) 0)
+    (
+    λ b. both
+    (is 1 e)
+    (λ k. clash (rw (a, b, k) at q) (packet-still (e .key) found p st))
+    (
+    λ k1. both
+    (is 2 e)
+    (λ k. clash (rw (a, b, k1, k) at q) (end-still found st))
+    (
+    λ k2. both
+    (is 3 e)
+    (λ k. rw (a, b, k1, k2, k) h)
+    (
+    λ k3. both
+    (is 4 e)
+    (λ k. rw (a, b, k1, k2, k3, k) h)
+    (
+    λ k4. both
+    (is 5 e)
+    (λ k. rw (a, b, k1, k2, k3, k4, k) (added-few (e .server) (st .roster) h))
+    (
+    λ k5. both
+    (is 6 e)
+    (λ k. rw (a, b, k1, k2, k3, k4, k5, k) (removed-few (e .server) (st .roster) h))
+    (λ k6. clash (rw (a, b, k1, k2, k3, k4, k5, k6) at q) refl)))))))
+    (λ b. clash (rw (a, b) at q) refl))
+
 -- the ring drawn in code is the ring drawn by the rules
-pub redrawn-is : (wanted : Bool) (r : Roster) (ring : List Entry) → length (r .servers) ≡ 64 → (wanted ≡ true → length ring ≡ 64)
+pub redrawn-is : (wanted : Bool) (r : Roster) (ring : List Entry) → length (r .servers) ≡ 64
+    → (wanted ≡ true → (length ring ≡ 64) × (r .held ≤ 64))
     → redrawn wanted r ring ≡ cond wanted (drawn (heldServers r) (workingSet r) ring) ring
 unfolding redrawn
 redrawn-is false r ring n h = refl
 redrawn-is true r ring n h =
-    let l : length (heldServers r) ≡ min (r .held) 64 = length-take (r .held) (r .servers) ∙ rw n in
-    rw (← l) (overlaid-drawn (heldServers r) (workingSet r) ring (omega arith) (omega (arith, h refl)))
+    let (a, b) = h refl in
+    let l : length (heldServers r) ≡ r .held = length-take (r .held) (r .servers) ∙ omega arith in
+    ap (λ (k : ℕ). overlaid (planned (heldServers r) (workingSet r)) k ring) (sym l)
+    ∙ overlaid-drawn (heldServers r) (workingSet r) ring (omega arith) (omega arith)
 
 module _ (bytes t rows flags : List ℕ) (ring : List Entry) (r : Roster) where
   abbrev admittedHere : Asked
@@ -151,8 +227,15 @@ module _ (bytes t rows flags : List ℕ) (ring : List Entry) (r : Roster) where
       react
       ∙ ap (λ (x : Entry). judged (told-event (seen .event)) (told-found (seen .found)) (pickBy (seen .f) x st) st) read
       ∙ seen-is in
-      let sized : out .redraw ≡ true → length ring ≡ 64 =
-      λ q. ring-64 _ _ _ _ (redraw-sized _ (sound r) (eventIn bytes) _ _ st (ap (λ (c : Change). c .redraw) (sym change) ∙ q)) in
+      let drawing : out .redraw ≡ true → judgedHere .redraw ≡ true = λ q. ap (λ (c : Change). c .redraw) (sym change) ∙ q in
+      let sized : out .redraw ≡ true → (length ring ≡ 64) × (out .roster .held ≤ 64) =
+      λ q. let d = drawing q in (
+        ring-64 _ _ _ _ (redraw-sized _ (sound r) (eventIn bytes) _ _ st d),
+        subst
+            (λ (c : Change). c .state .roster .held ≤ 64)
+            (sym change)
+            (redraw-few admittedHere _ _ st (sound-parts r (redraw-sound _ (sound r) (eventIn bytes) _ _ st d) .few) d),
+      ) in
       ap
       (λ (es : List Entry). done (record { reply = out .reply; roster = out .roster }) t′ rows′ flags′ es)
       (draw ∙ redrawn-is (out .redraw) (out .roster) ring n sized)

@@ -1,6 +1,6 @@
 -- How the engine is cut, so that it never sees the ring: what a look at the record finds before the ring is read, and what the reaction
 -- hands back for the ring to be drawn from. `eventOf` is put together from these (proofs/Whole.antt).
-use Prim.Native.Nat.{ℕ, min}
+use Prim.Native.Nat.{ℕ}
 use mathlib.Core.Bool.{Bool, true, false, cond, not, _&&_, _||_}
 use mathlib.Core.List.{List}
 use lib.Dec.{eqb}
@@ -81,4 +81,4 @@ beginOf t rows flags ring r =
 
 -- the ring drawn anew for a roster, where that is wanted
 unfoldable pub redrawn : Bool → Roster → List Entry → List Entry
-redrawn wanted r es = cond wanted (overlaid (planned (heldServers r) (workingSet r)) (min (r .held) 64) es) es
+redrawn wanted r es = cond wanted (overlaid (planned (heldServers r) (workingSet r)) (r .held) es) es
