@@ -11,13 +11,13 @@ use Rattle.rules.specs.Rules.{State, Done, done, startDone, eventOf}
 use Rattle.rules.proofs.Apart.{told-apart}
 
 -- all that a promise is about
-pub record SameOutcome (o o′ : Outcome) (t t′ rows rows′ flags flags′ : List ℕ) (ring ring′ : List Entry) : Type 0 where
+pub record SameOutcome (o o′ : Outcome) (t t′ ns ns′ fs fs′ : List ℕ) (es es′ : List Entry) : Type 0 where
   pub reply : o .reply ≡ o′ .reply
   pub roster : o .roster ≡ o′ .roster
   pub table : t ≡ t′
-  pub rows : rows ≡ rows′
-  pub flags : flags ≡ flags′
-  pub ring : ring ≡ ring′
+  pub rows : ns ≡ ns′
+  pub flags : fs ≡ fs′
+  pub ring : es ≡ es′
 
 module _ (o o′ : Outcome) (t t′ rows rows′ flags flags′ : List ℕ) (ring ring′ : List Entry) where
   unique : (d : Done) → done o t rows flags ring ≡ d → done o′ t′ rows′ flags′ ring′ ≡ d
