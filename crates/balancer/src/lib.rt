@@ -1,7 +1,8 @@
 // The balancer: a start or an event, over the lent table, rows, flags and ring, with the roster handed in and handed back.
 ghost use mathlib.Core.Path.{_≡_};
 ghost use Rattle.rules.specs.Rules.{State, done, startDone, eventOf};
-ghost use Rattle.engine.specs.Looking.{stateWith, redrawn};
+ghost use Rattle.answers.specs.Reacting.{stateWith};
+ghost use Rattle.engine.specs.Looking.{redrawn};
 use ring::Entry;
 use roster::Roster;
 use rules::Outcome;

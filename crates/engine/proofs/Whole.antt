@@ -24,8 +24,9 @@ use Rattle.ringplan.proofs.Planning.{overlaid-drawn}
 use Rattle.rules.specs.declared.Outcome.{Outcome}
 use Rattle.rules.specs.Rules.{State, Change, Done, is, sizesRight, admitted, judged, barred, effect, packet, end, pickBy, sizedFor, settled, done, startDone, startOf, eventOf}
 use Rattle.engine.specs.declared.Seen.{Seen}
-use Rattle.engine.specs.declared.Reaction.{Reaction}
-use Rattle.engine.specs.Looking.{Looked, seenAs, nothingFound, foundBy, unrecorded, lookOf, stateWith, reacted, redrawn, Begun, begun, beginOf}
+use Rattle.answers.specs.declared.Reaction.{Reaction}
+use Rattle.answers.specs.Reacting.{stateWith, reacted}
+use Rattle.engine.specs.Looking.{Looked, seenAs, nothingFound, foundBy, unrecorded, lookOf, redrawn, Begun, begun, beginOf}
 
 -- what is found and picked matters only where the kind looks at it
 module _ (e : Asked) (st : State) where

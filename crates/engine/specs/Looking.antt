@@ -6,7 +6,6 @@ use mathlib.Core.List.{List}
 use lib.Dec.{eqb}
 use lib.ListN.{length}
 use Rattle.hash.specs.Hash.{F}
-use Rattle.ranking.specs.declared.Pick.{Pick}
 use Rattle.roster.specs.declared.Roster.{Roster}
 use Rattle.roster.specs.Roster.{working, stateOf, heldServers, workingSet, emptyRoster}
 use Rattle.event.specs.Event.{Asked}
@@ -17,7 +16,6 @@ use Rattle.ring.specs.declared.Entry.{Entry}
 use Rattle.ring.specs.Ring.{overlaid}
 use Rattle.ringplan.specs.Plan.{planned}
 use Rattle.engine.specs.declared.Seen.{Seen}
-use Rattle.engine.specs.declared.Reaction.{Reaction}
 use Rattle.rules.specs.declared.Outcome.{Outcome}
 use Rattle.rules.specs.Answer.{Told, accepts, refuses, told}
 use Rattle.rules.specs.Rules.{State, Change, is, target, packet, refused, sizesRight}
@@ -51,18 +49,6 @@ lookOf e t r =
       f = cond (unrecorded e t) (F (e .key)) 0;
       places = cond (unrecorded e t) (cond (eqb (r .settings .method) 2) (r .held) 0) 0;
     }
-
--- a state of separate buffers, and a reaction with the buffers that it leaves
-abbrev pub stateWith : List ℕ → List ℕ → List ℕ → Roster → State
-stateWith t rows flags r = record { table = t; rows = rows; flags = flags; roster = r }
-
-abbrev pub reacted : Reaction → List ℕ → List ℕ → List ℕ → Change
-reacted v t rows flags = record { told = told (v .reply); state = stateWith t rows flags (v .roster); redraw = v .redraw }
-
--- a packet once it is known that some server works: refusal 8 is left
-unfoldable pub led : List ℕ → Finding → Pick → State → Change
-led key found pick st =
-    cond (eqb (stateOf (target found pick st) (st .roster)) working) (packet key found pick st) (refused 8 st)
 
 -- a start, without rows, flags and ring, of which only the lengths count
 pub record Begun : Type 0 where

@@ -1,10 +1,9 @@
 // The engine: what an event does to the lent table, rows and flags and to the roster. It never sees the
 // ring: `look` says what is to be read from it, `react` is handed the entry read, and says whether
 // the ring is to be drawn anew.
-mod arms;
 mod looking;
-mod packets;
 
+use answers::Reaction;
 use event::Ask;
 use event::Event;
 use ring::Entry;
@@ -19,7 +18,8 @@ ghost use Rattle.table.specs.Table.{told as told-found};
 ghost use Rattle.roster.specs.Roster.{sound as sound-of, heldServers, workingSet};
 ghost use Rattle.ringplan.specs.Plan.{planned};
 ghost use Rattle.rules.specs.Rules.{sizesRight, admitted, judged, pickBy};
-ghost use Rattle.engine.specs.Looking.{lookOf, seenAs, stateWith, reacted, begun, beginOf};
+ghost use Rattle.engine.specs.Looking.{lookOf, seenAs, begun, beginOf};
+ghost use Rattle.answers.specs.Reacting.{stateWith, reacted};
 
 // What a look at an event record finds before the ring is read.
 pub struct Seen {
@@ -27,13 +27,6 @@ pub struct Seen {
     pub found: Found,
     pub f: u32,
     pub places: usize,
-}
-
-// What the reaction hands back: the answer, the roster afterwards, and whether the ring is drawn anew.
-pub struct Reaction {
-    pub reply: Reply,
-    pub roster: Roster,
-    pub redraw: bool,
 }
 
 // Reads the event record, tests what can be refused at once, and looks for the key's record.
@@ -71,13 +64,13 @@ pub fn react(
     let found = seen.found;
     match ask {
         Ask::Packet => packets::packet(key, found, seen.f, spot, table, rows, flags, roster),
-        Ask::End => arms::end(found, table, roster),
-        Ask::AddWorking(server) => arms::add_working(server, rows, flags, roster),
-        Ask::RemoveWorking(server) => arms::remove_working(server, table, rows, flags, roster),
-        Ask::AddHorizon(server) => arms::add_horizon(server, rows, flags, roster),
-        Ask::RemoveHorizon(server) => arms::remove_horizon(server, rows, flags, roster),
-        Ask::Configure(settings) => arms::configure(settings, table, rows, flags, roster),
-        Ask::Refused(number) => arms::refused(number, roster),
+        Ask::End => changes::end(found, table, roster),
+        Ask::AddWorking(server) => changes::add_working(server, rows, flags, roster),
+        Ask::RemoveWorking(server) => changes::remove_working(server, table, rows, flags, roster),
+        Ask::AddHorizon(server) => changes::add_horizon(server, rows, flags, roster),
+        Ask::RemoveHorizon(server) => changes::remove_horizon(server, rows, flags, roster),
+        Ask::Configure(settings) => changes::configure(settings, table, rows, flags, roster),
+        Ask::Refused(number) => answers::refused(number, roster),
     }
 }
 

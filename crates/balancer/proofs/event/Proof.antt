@@ -48,7 +48,8 @@ use Rattle.event.specs.Event.{eventIn}
 use Rattle.event.specs.Event.{told as told-event}
 use Rattle.table.specs.Table.{told as told-found}
 use Rattle.rules.specs.Rules.{sizesRight, admitted, pickBy}
-use Rattle.engine.specs.Looking.{seenAs, lookOf, stateWith, reacted}
+use Rattle.engine.specs.Looking.{seenAs, lookOf}
+use Rattle.answers.specs.Reacting.{stateWith, reacted}
 use Rattle.rules.specs.Rules.{eventOf}
 use Rattle.rules.specs.Rules.{judged}
 use Rattle.rules.specs.Rules.{done as done-with}
@@ -62,14 +63,14 @@ use Rattle.ring.proofs.Loans.{lend-shr, back-shr}
 use Rattle.ring.proofs.Steps.{bare, here, local, has, free-all}
 use Rattle.roster.specs.declared.Roster.{Roster}
 use Rattle.engine.specs.declared.Seen.{Seen}
-use Rattle.engine.specs.declared.Reaction.{Reaction}
+use Rattle.answers.specs.declared.Reaction.{Reaction}
 use Rattle.rules.specs.declared.Outcome.{Outcome}
 use Rattle.roster.proofs.Roster as Ro
 use Rattle.roster.proofs.Roster.Laws as RoL
 use Rattle.engine.proofs.Seen as Se
 use Rattle.engine.proofs.Seen.Laws as SeL
-use Rattle.engine.proofs.Reaction as Re
-use Rattle.engine.proofs.Reaction.Laws as ReL
+use Rattle.answers.proofs.Reaction as Re
+use Rattle.answers.proofs.Reaction.Laws as ReL
 use Rattle.rules.proofs.Outcome as Oc
 use Rattle.rules.proofs.Outcome.Laws as OcL
 use Rattle.engine.proofs.look as look-at

@@ -41,7 +41,8 @@ use Rattle.ring.specs.declared.Entry.{Entry}
 use Rattle.roster.specs.declared.Roster.{Roster}
 use Rattle.rules.specs.declared.Outcome.{Outcome}
 use Rattle.rules.specs.Rules.{startDone}
-use Rattle.engine.specs.Looking.{stateWith, begun, beginOf}
+use Rattle.engine.specs.Looking.{begun, beginOf}
+use Rattle.answers.specs.Reacting.{stateWith}
 use Rattle.rules.specs.Rules.{done as done-with}
 use Rattle.engine.proofs.Whole.{whole-start}
 use Rattle.ring.proofs.Entries.{E}

@@ -3,7 +3,7 @@ use mathlib.Core.Path.{_≡_, sym, _∙_}
 use native.Mathlib.Omega.{arith}
 use lib.ListN.{length}
 use lib.Seq.{length-take-le}
-use Rattle.engine.proofs.Rosters.{in-use}
+use Rattle.answers.proofs.Rosters.{in-use}
 use borrow.Author.Needs.{needs}
 use Rattle.engine.proofs.plan_of.Statement.{statement}
 use Rattle.engine.proofs.plan_of.Tie as tie

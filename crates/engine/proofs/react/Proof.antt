@@ -5,8 +5,8 @@ use Rattle.event.specs.Event.{toldAs}
 use Rattle.table.specs.Table.{told as told-found}
 use Rattle.ranking.specs.declared.Pick.{Pick}
 use Rattle.rules.specs.Rules.{State, pickBy, judged}
-use Rattle.engine.specs.Looking.{stateWith}
-use Rattle.engine.proofs.ByKind.{refused-as}
+use Rattle.answers.specs.Reacting.{stateWith}
+use Rattle.changes.proofs.ByKind.{refused-as}
 use borrow.Author.Needs.{needs}
 use Rattle.engine.proofs.react.Statement.{statement}
 use Rattle.engine.proofs.react.Tie as tie

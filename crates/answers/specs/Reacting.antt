@@ -1,0 +1,14 @@
+-- What a part of the engine hands back, together with the buffers that it leaves, as a change of the state.
+use Prim.Native.Nat.{ℕ}
+use mathlib.Core.List.{List}
+use Rattle.roster.specs.declared.Roster.{Roster}
+use Rattle.rules.specs.Answer.{told}
+use Rattle.rules.specs.Rules.{State, Change}
+use Rattle.answers.specs.declared.Reaction.{Reaction}
+
+-- a state of separate buffers, and a reaction with the buffers that it leaves
+abbrev pub stateWith : List ℕ → List ℕ → List ℕ → Roster → State
+stateWith t rows flags r = record { table = t; rows = rows; flags = flags; roster = r }
+
+abbrev pub reacted : Reaction → List ℕ → List ℕ → List ℕ → Change
+reacted v t rows flags = record { told = told (v .reply); state = stateWith t rows flags (v .roster); redraw = v .redraw }

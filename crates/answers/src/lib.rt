@@ -1,0 +1,57 @@
+// The answers that the parts of the engine give: refused, accepted, or a change taken.
+ghost use mathlib.Core.Path.{_≡_};
+ghost use mathlib.Core.List.{List};
+ghost use Prim.Native.Nat.{ℕ};
+ghost use Rattle.rules.specs.Answer.{accepts};
+ghost use Rattle.rules.specs.Rules.{answered, refused as refused-by};
+ghost use Rattle.answers.specs.Reacting.{stateWith, reacted};
+use roster::Roster;
+use rules::Reply;
+
+// What the engine hands back: the answer, the roster afterwards, and whether the ring is drawn anew.
+pub struct Reaction {
+    pub reply: Reply,
+    pub roster: Roster,
+    pub redraw: bool,
+}
+
+// A refusal: nothing changes.
+pub fn refused(number: u8, r: Roster) -> Reaction
+    ensures { λ v. ⌜ ((t rows flags : List ℕ) → reacted v t rows flags ≡ refused-by number (stateWith t rows flags r)) ⌝ }
+{
+    Reaction {
+        reply: Reply::Refused(number),
+        roster: r,
+        redraw: false,
+    }
+}
+
+// An accepted packet or end; the roster stays.
+pub fn accepted(server: u32, mark: u8, reads: usize, r: Roster) -> Reaction
+    ensures { λ v. ⌜ ((t′ t rows flags : List ℕ) → reacted v t′ rows flags ≡ answered (accepts server mark reads) t′ (stateWith t rows flags r)) ⌝ }
+{
+    Reaction {
+        reply: Reply::Accepted {
+            server: server,
+            mark: mark,
+            reads: reads,
+        },
+        roster: r,
+        redraw: false,
+    }
+}
+
+// An accepted roster change or configure: server, mark and reads are 0.
+pub fn taken(next: Roster, redraw: bool) -> Reaction
+    ensures { λ v. ⌜ ((t rows flags : List ℕ) → reacted v t rows flags ≡ record { told = accepts 0 0 0; state = stateWith t rows flags next; redraw = redraw }) ⌝ }
+{
+    Reaction {
+        reply: Reply::Accepted {
+            server: 0,
+            mark: 0,
+            reads: 0,
+        },
+        roster: next,
+        redraw: redraw,
+    }
+}
