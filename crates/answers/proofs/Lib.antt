@@ -1,1 +1,2 @@
 pub mod Rosters
+pub mod Unique

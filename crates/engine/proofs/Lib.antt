@@ -1,2 +1,3 @@
 pub mod OfLooking
 pub mod Whole
+pub mod Unique

@@ -1,0 +1,56 @@
+-- No second reaction satisfies a promise that gives it, with the buffers it leaves, as one change: reply, roster, redraw, table, rows and
+-- flags are determined one by one.
+use Prim.Native.Nat.{ℕ}
+use mathlib.Core.Bool.{Bool}
+use mathlib.Core.List.{List, []}
+use mathlib.Core.Path.{_≡_, sym, ap, _∙_}
+use Rattle.roster.specs.declared.Roster.{Roster}
+use Rattle.rules.specs.declared.Reply.{Reply}
+use Rattle.rules.specs.Answer.{accepts}
+use Rattle.rules.specs.Rules.{Change, answered, refused}
+use Rattle.rules.proofs.Apart.{told-apart}
+use Rattle.answers.specs.declared.Reaction.{Reaction}
+use Rattle.answers.specs.Reacting.{stateWith, reacted}
+
+pub record SameReaction (v v′ : Reaction) (t t′ ns ns′ fs fs′ : List ℕ) : Type 0 where
+  pub reaction : v ≡ v′
+  pub table : t ≡ t′
+  pub rows : ns ≡ ns′
+  pub flags : fs ≡ fs′
+
+same : (v v′ : Reaction) → v .reply ≡ v′ .reply → v .roster ≡ v′ .roster → v .redraw ≡ v′ .redraw → v ≡ v′
+same v v′ a b c = λ i. record { reply = a i; roster = b i; redraw = c i }
+
+-- for `packets::packet`, every function of `changes` and `engine::react`
+pub reaction-unique : (v v′ : Reaction) (t t′ rows rows′ flags flags′ : List ℕ) (c : Change)
+    → reacted v t rows flags ≡ c → reacted v′ t′ rows′ flags′ ≡ c → SameReaction v v′ t t′ rows rows′ flags flags′
+reaction-unique v v′ t t′ rows rows′ flags flags′ c p q =
+    let e : reacted v t rows flags ≡ reacted v′ t′ rows′ flags′ = p ∙ sym q in
+    record {
+      reaction =
+          same
+          v
+          v′
+          (told-apart (v .reply) (v′ .reply) (ap (λ (x : Change). x .told) e))
+          (ap (λ (x : Change). x .state .roster) e)
+          (ap (λ (x : Change). x .redraw) e);
+      table = ap (λ (x : Change). x .state .table) e;
+      rows = ap (λ (x : Change). x .state .rows) e;
+      flags = ap (λ (x : Change). x .state .flags) e;
+    }
+
+-- for the functions of this crate, which touch no buffer
+pub refused-unique : (n : ℕ) (r : Roster) (v v′ : Reaction)
+    → ((t rows flags : List ℕ) → reacted v t rows flags ≡ refused n (stateWith t rows flags r))
+    → ((t rows flags : List ℕ) → reacted v′ t rows flags ≡ refused n (stateWith t rows flags r)) → v ≡ v′
+refused-unique n r v v′ p q = reaction-unique v v′ [] [] [] [] [] [] _ (p [] [] []) (q [] [] []) .reaction
+
+pub accepted-unique : (s mark reads : ℕ) (r : Roster) (v v′ : Reaction)
+    → ((t′ t rows flags : List ℕ) → reacted v t′ rows flags ≡ answered (accepts s mark reads) t′ (stateWith t rows flags r))
+    → ((t′ t rows flags : List ℕ) → reacted v′ t′ rows flags ≡ answered (accepts s mark reads) t′ (stateWith t rows flags r)) → v ≡ v′
+accepted-unique s mark reads r v v′ p q = reaction-unique v v′ [] [] [] [] [] [] _ (p [] [] [] []) (q [] [] [] []) .reaction
+
+pub taken-unique : (next : Roster) (redraw : Bool) (v v′ : Reaction)
+    → ((t rows flags : List ℕ) → reacted v t rows flags ≡ record { told = accepts 0 0 0; state = stateWith t rows flags next; redraw = redraw })
+    → ((t rows flags : List ℕ) → reacted v′ t rows flags ≡ record { told = accepts 0 0 0; state = stateWith t rows flags next; redraw = redraw }) → v ≡ v′
+taken-unique next redraw v v′ p q = reaction-unique v v′ [] [] [] [] [] [] _ (p [] [] []) (q [] [] []) .reaction
