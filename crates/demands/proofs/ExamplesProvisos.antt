@@ -1,0 +1,151 @@
+-- None of demand 3's four provisos is decoration: without any one of them the demand is false of our engine. For each a history is shown in
+-- which the other three hold, and the later packet gets another mover.
+use Prim.Native.Nat.{ℕ}
+use mathlib.Core.Bool.{true, false}
+use mathlib.Core.List.{List, [], _∷_, _++_}
+use mathlib.Core.Logic.{_≢_}
+use mathlib.Core.Path.{_≡_, refl}
+use native.Mathlib.Omega.{arith}
+use Rattle.sets.specs.Sets.{member}
+use Rattle.sets.proofs.Cases.{clash}
+use Rattle.sets.proofs.Members.{member-tail}
+use Rattle.roster.specs.Roster.{working, stateOf, heldServers, workingSet}
+use Rattle.event.specs.Event.{asksKey, eventIn}
+use Rattle.rules.specs.Answer.{accepts}
+use Rattle.histories.specs.Histories.{AllBytes}
+use Rattle.demands.specs.Demands.{Engine, ours, Throughout, Provisos, Demand3}
+use Rattle.demands.proofs.Examples.{computed, lent, enters, leaves, stands, keyed, packetOf, endOf, two, twoAndStandby, other-kind}
+
+-- the provisos one by one, of an engine, the history before the earlier packet, that packet, its key and mover, and the records between
+module _ (E : Engine) (h : List (List ℕ)) (earlier key : List ℕ) (m : ℕ) (between : List (List ℕ)) where
+  abbrev pub Worked : Type 0
+  Worked = Throughout (λ g bytes. stateOf m (E .roster (bytes ∷ g)) ≡ working) between (earlier ∷ h)
+
+  abbrev pub Unended : Type 0
+  Unended = Throughout (λ g bytes. eventIn bytes ≢ asksKey 2 key) between (earlier ∷ h)
+
+  abbrev pub Held : Type 0
+  Held =
+      Throughout
+      (λ g bytes. (x : ℕ) → member x (workingSet (E .roster (bytes ∷ g))) ≡ true → member x (workingSet (E .roster g)) ≡ false
+      → member x (heldServers (E .roster h)) ≡ true)
+      between
+      (earlier ∷ h)
+
+  abbrev pub Roomy : Type 0
+  Roomy = E .says h earlier .mark ≢ 4
+
+  -- together they are demand 3's
+  pub together : Worked → Unended → Held → Roomy → Provisos E h earlier key m between
+  together a b c d = record { worked = a; unended = b; held = c; roomTold = d }
+
+  -- and without one of them
+  abbrev pub ButWorked : Type 0
+  ButWorked = Unended × Held × Roomy
+
+  abbrev pub ButUnended : Type 0
+  ButUnended = Worked × Held × Roomy
+
+  abbrev pub ButHeld : Type 0
+  ButHeld = Worked × Unended × Roomy
+
+  abbrev pub ButRoomy : Type 0
+  ButRoomy = Worked × Unended × Held
+
+-- what demand 3 says, with other provisos Q in the place of its own
+abbrev pub Under : (List (List ℕ) → List ℕ → List ℕ → ℕ → List (List ℕ) → Type 0) → Engine → Type 0
+Under Q E =
+    (h between : List (List ℕ)) (earlier later key : List ℕ) → AllBytes (later ∷ (between ++ (earlier ∷ h)))
+    → eventIn earlier ≡ asksKey 1 key → eventIn later ≡ asksKey 1 key → E .says h earlier .accepted ≡ true
+    → Q h earlier key (E .says h earlier .server) between
+    → (E .says (between ++ (earlier ∷ h)) later .accepted ≡ true)
+    × (E .says (between ++ (earlier ∷ h)) later .server ≡ E .says h earlier .server)
+
+pub under-provisos : (E : Engine) → Under (Provisos E) E → Demand3 E
+under-provisos E d = d
+
+-- "provided that mover worked throughout": 2 and 3 work, and the packet gets 2; then 2 leaves work, and the later packet gets 3
+pub worked-needed : Under (ButWorked (ours (lent 2))) (ours (lent 2)) → ⊥
+unfolding computed
+worked-needed d =
+    let r =
+    d (enters 3 ∷ stands 3 ∷ two) (leaves 2 ∷ []) (packetOf 1) (packetOf 1) (keyed 1)
+    (refl, (refl, (refl, (refl, (refl, (refl, (refl, (refl, tt))))))))
+    refl
+    refl
+    refl (
+      (other-kind (eventIn (leaves 2)) (keyed 1) 4 refl (λ q. omega arith), tt),
+      (λ x m n. member-tail x 2 (3 ∷ []) m, tt),
+      λ q. let z : _≡_ {A = ℕ} 2 4 = q in omega arith,
+    ) in
+    let z : _≡_ {A = ℕ} 3 2 = r .1 in
+    omega arith
+
+-- "the key wasn't ended between them": the packet gets 2 and is recorded; then 4 enters from the horizon and the key ends, and the later
+-- packet gets 4
+pub unended-needed : Under (ButUnended (ours (lent 2))) (ours (lent 2)) → ⊥
+unfolding computed
+unended-needed d =
+    let r =
+    d twoAndStandby (endOf 1 ∷ enters 4 ∷ []) (packetOf 1) (packetOf 1) (keyed 1)
+    (refl, (refl, (refl, (refl, (refl, (refl, (refl, (refl, tt))))))))
+    refl
+    refl
+    refl (
+      (refl, (refl, tt)),
+      (λ x m n. clash m n, (λ x m n. m, tt)),
+      λ q. let z : _≡_ {A = ℕ} 3 4 = q in omega arith,
+    ) in
+    let z : _≡_ {A = ℕ} 4 2 = r .1 in
+    omega arith
+
+-- "every mover brought into work between them was already working or in the horizon at the earlier packet": the packet gets 2, safely; then
+-- 4, unknown so far, comes into the horizon and into work, and the later packet gets 4
+pub held-needed : Under (ButHeld (ours (lent 2))) (ours (lent 2)) → ⊥
+unfolding computed
+held-needed d =
+    let r =
+    d two (enters 4 ∷ stands 4 ∷ []) (packetOf 1) (packetOf 1) (keyed 1)
+    (refl, (refl, (refl, (refl, (refl, (refl, (refl, tt)))))))
+    refl
+    refl
+    refl (
+      (refl, (refl, tt)),
+      (
+        other-kind (eventIn (enters 4)) (keyed 1) 3 refl (λ q. omega arith),
+        (other-kind (eventIn (stands 4)) (keyed 1) 5 refl (λ q. omega arith), tt),
+      ),
+      λ q. let z : _≡_ {A = ℕ} 2 4 = q in omega arith,
+    ) in
+    let z : _≡_ {A = ℕ} 4 2 = r .1 in
+    omega arith
+
+-- "the earlier packet wasn't told there was no room": another key has the table's only record, so the packet gets 2 and is told; then 4
+-- enters from the horizon, and the later packet gets 4
+pub room-needed : Under (ButRoomy (ours (lent 1))) (ours (lent 1)) → ⊥
+unfolding computed
+room-needed d =
+    let r =
+    d (packetOf 7 ∷ twoAndStandby) (enters 4 ∷ []) (packetOf 1) (packetOf 1) (keyed 1)
+    (refl, (refl, (refl, (refl, (refl, (refl, (refl, (refl, tt))))))))
+    refl
+    refl
+    refl (
+      (refl, tt),
+      (other-kind (eventIn (enters 4)) (keyed 1) 3 refl (λ q. omega arith), tt),
+      (λ x m n. m, tt),
+    ) in
+    let z : _≡_ {A = ℕ} 4 2 = r .1 in
+    omega arith
+
+-- what the two packets are told in each of the four
+pub told-each : (ours (lent 2) .says (enters 3 ∷ stands 3 ∷ two) (packetOf 1) ≡ accepts 2 2 0)
+    × (ours (lent 2) .says (leaves 2 ∷ packetOf 1 ∷ enters 3 ∷ stands 3 ∷ two) (packetOf 1) ≡ accepts 3 3 0)
+    × (ours (lent 2) .says twoAndStandby (packetOf 1) ≡ accepts 2 3 0)
+    × (ours (lent 2) .says (endOf 1 ∷ enters 4 ∷ packetOf 1 ∷ twoAndStandby) (packetOf 1) ≡ accepts 4 2 0)
+    × (ours (lent 2) .says two (packetOf 1) ≡ accepts 2 2 0)
+    × (ours (lent 2) .says (enters 4 ∷ stands 4 ∷ packetOf 1 ∷ two) (packetOf 1) ≡ accepts 4 2 0)
+    × (ours (lent 1) .says (packetOf 7 ∷ twoAndStandby) (packetOf 1) ≡ accepts 2 4 1)
+    × (ours (lent 1) .says (enters 4 ∷ packetOf 1 ∷ packetOf 7 ∷ twoAndStandby) (packetOf 1) ≡ accepts 4 2 1)
+unfolding computed
+told-each = (refl, refl, refl, refl, refl, refl, refl, refl)
