@@ -5,3 +5,11 @@ pub mod SteadyKept
 pub mod Steady
 pub mod Examples
 pub mod ExamplesProvisos
+pub mod Packets
+pub mod Others
+pub mod Obeys
+pub mod Same
+pub mod Witness
+pub mod Impostors
+pub mod Pretenders
+pub mod Roomless

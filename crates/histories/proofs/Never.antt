@@ -24,7 +24,7 @@ use Rattle.rules.specs.Rules.{State, Done, is, target, barred, judged, eventOf}
 use Rattle.histories.specs.Histories.{World, startAccepted, after, answer, AllBytes, rankingFor}
 use Rattle.histories.proofs.Inner.{Inner}
 use Rattle.histories.proofs.Picking.{pickOf, ranking-strict, pick-right}
-use Rattle.histories.proofs.Refusals.{effect-unrefused}
+use Rattle.rules.proofs.Refusals.{effect-unrefused}
 use Rattle.histories.proofs.Recorded.{named-at}
 use Rattle.histories.proofs.Barring.{barred-not-9, barred-not-11, barred-8}
 use Rattle.histories.proofs.Along.{event-judged, inner}
