@@ -14,7 +14,7 @@ pub struct Place {
 }
 
 // Before the first record.
-pub fn nowhere() -> Place {
+pub(crate) fn nowhere() -> Place {
     Place {
         at: 0,
         to: 0,
@@ -24,7 +24,7 @@ pub fn nowhere() -> Place {
 }
 
 // The next record. Where the block has no whole one left, the text is written and more is read.
-pub fn find(input: &mut [u8], text: &[u8], place: Place) -> Place
+pub(crate) fn find(input: &mut [u8], text: &[u8], place: Place) -> Place
     ensures { λ p. ⌜ (p .at ≤ p .to) × (p .to ≤ length (now (input .exit))) ⌝ }
 {
     let from = place.to;
@@ -53,7 +53,7 @@ pub fn find(input: &mut [u8], text: &[u8], place: Place) -> Place
 }
 
 // Writes the first bytes of a text.
-pub fn write(text: &[u8], filled: usize) {
+pub(crate) fn write(text: &[u8], filled: usize) {
     if filled <= text.len() {
         io::write_all(STDOUT_FILENO, &text[..filled]);
     }

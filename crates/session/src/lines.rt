@@ -15,7 +15,7 @@ struct Said {
 
 // Puts the line for a record's answer behind the text; none where there was no record. Text that has no room for it is
 // written first, and so is all of it behind the last event that is numbered.
-pub fn answer(
+pub(crate) fn answer(
     input: &[u8],
     text: &mut [u8],
     table: &[u8],
@@ -67,6 +67,7 @@ fn last(text: &[u8], number: u64, filled: usize) -> usize {
     0
 }
 
+// A reply in the numbers that a line has.
 fn parts(reply: Reply) -> Said {
     match reply {
         Reply::Accepted {
@@ -92,6 +93,7 @@ fn parts(reply: Reply) -> Said {
     }
 }
 
+// A byte as a number.
 fn wide(x: u8) -> u64 {
     x as u64
 }
