@@ -45,8 +45,8 @@ fn figure(mark: u64, gives: u32) {
     io::write_all(STDOUT_FILENO, b"\n");
 }
 
-// The short strings, and the same with a zero byte behind them.
-fn short_strings() {
+// The empty string and single letters.
+fn single_letters() {
     vector(b"");
     vector(b"a");
     vector(b"b");
@@ -54,11 +54,19 @@ fn short_strings() {
     vector(b"d");
     vector(b"e");
     vector(b"f");
+}
+
+// The beginnings of "foobar".
+fn foobar() {
     vector(b"fo");
     vector(b"foo");
     vector(b"foob");
     vector(b"fooba");
     vector(b"foobar");
+}
+
+// The same as the first, with a zero byte behind each.
+fn single_letters_ended() {
     vector(b"\0");
     vector(b"a\0");
     vector(b"b\0");
@@ -66,6 +74,10 @@ fn short_strings() {
     vector(b"d\0");
     vector(b"e\0");
     vector(b"f\0");
+}
+
+// The beginnings of "foobar", with a zero byte behind each.
+fn foobar_ended() {
     vector(b"fo\0");
     vector(b"foo\0");
     vector(b"foob\0");
@@ -73,8 +85,8 @@ fn short_strings() {
     vector(b"foobar\0");
 }
 
-// The longer strings.
-fn longer_strings() {
+// The beginnings of "chongo was here!".
+fn chongo() {
     vector(b"ch");
     vector(b"cho");
     vector(b"chon");
@@ -83,6 +95,10 @@ fn longer_strings() {
     vector(b"chongo ");
     vector(b"chongo w");
     vector(b"chongo wa");
+}
+
+// The rest of them, and the whole with a line end.
+fn chongo_on() {
     vector(b"chongo was");
     vector(b"chongo was ");
     vector(b"chongo was h");
@@ -93,8 +109,8 @@ fn longer_strings() {
     vector(b"chongo was here!\n");
 }
 
-// Document 01, "Worked figures": P1 to P8, P11, P12 and P13.
-fn figures() {
+// Document 01, "Worked figures": P1 to P8 and P11.
+fn weights() {
     figure(1, hash::weight(1, 0));
     figure(2, hash::weight(2, 0));
     figure(3, hash::weight(3, 0));
@@ -104,13 +120,22 @@ fn figures() {
     figure(7, hash::weight(3, 1));
     figure(8, hash::weight(4, 1));
     figure(11, hash::weight(2147483649, 0));
+}
+
+// P12 and P13: distances, and F of a zero byte.
+fn distances() {
     figure(12, hash::distance(5, 4294967290));
     figure(12, hash::distance(4294967289, 4294967290));
     figure(13, hash::fnv(b"\0"));
 }
 
 fn main() {
-    short_strings();
-    longer_strings();
-    figures();
+    single_letters();
+    foobar();
+    single_letters_ended();
+    foobar_ended();
+    chongo();
+    chongo_on();
+    weights();
+    distances();
 }
