@@ -1,0 +1,67 @@
+-- `limits::rosters::run` meets its contract.
+use Prim.Native.Nat.{_≤_, _-_}
+use lib.ListN.{length}
+use borrow.Author.Needs.{needs}
+use Rattle.limits.proofs.rosters.run.Statement.{statement}
+use Rattle.limits.proofs.rosters.run.Tie as tie
+
+abbrev Inv-loop : tie.InvT-loop
+Inv-loop cases r₀ s₀ i₀ r s i = i₀ ≤ i
+
+abbrev μ-loop : tie.MeasureT-loop
+μ-loop cases r₀ s₀ i₀ r s i = length cases - i
+
+empty-requires : tie.Need-empty-requires Inv-loop μ-loop
+empty-requires c κs = search needs
+
+blank-requires : tie.Need-blank-requires Inv-loop μ-loop
+blank-requires c κs = search needs
+
+loop-holds : tie.Need-loop-holds Inv-loop μ-loop
+loop-holds c = search needs
+
+shared-slice-read-c : tie.Need-shared-slice-read-c Inv-loop μ-loop
+shared-slice-read-c c = search needs
+
+add-i : tie.Need-add-i Inv-loop μ-loop
+add-i c = search needs
+
+returns : tie.Need-returns Inv-loop μ-loop
+returns c = search needs
+
+turn-requires : tie.Need-turn-requires Inv-loop μ-loop
+turn-requires c κs = search needs
+
+letter-requires : tie.Need-letter-requires Inv-loop μ-loop
+letter-requires c κs = search needs
+
+read-requires : tie.Need-read-requires Inv-loop μ-loop
+read-requires c κs = search needs
+
+loop-less : tie.Need-loop-less Inv-loop μ-loop
+loop-less c = search needs
+
+loop-again : tie.Need-loop-again Inv-loop μ-loop
+loop-again c = search needs
+
+returns-2 : tie.Need-returns-2 Inv-loop μ-loop
+returns-2 c = search needs
+
+pub run-spec : {M : Type 1} → statement M
+run-spec =
+    tie.close
+    (tie.spec
+    Inv-loop
+    μ-loop
+    empty-requires
+    blank-requires
+    loop-holds
+    shared-slice-read-c
+    add-i
+    returns
+    turn-requires
+    letter-requires
+    read-requires
+    loop-less
+    loop-again
+    returns-2)

@@ -1,0 +1,180 @@
+"""The `lent` program on the model: buffers and rosters that someone else wrote, one line for each case.
+
+    python3 lent_program.py > lines
+
+A line: the case's name, a colon, refusal, server, mark, reads, the used records afterwards, and the digests of
+table, rows, flags, ring and roster (layout: session.py), `-` for a ring of 63. Every case begins afresh from `Case`.
+"""
+import sys
+
+import model
+import session
+from lent import record, roster
+from model import Entry
+from streams import HALF, with_server, with_settings
+
+P, Q, R = (bytes([n]) * 13 for n in (1, 2, 3))
+POINT, ROW = model.fnv(P), model.fnv(P) % 11
+ONE = {1: 1}
+
+
+class Case:
+    """A packet of P, a table of four zero records, rows of 9 without flags, a ring whose entries name 9 at the
+    last position, server 1 working under method 1."""
+
+    def __init__(self, event=b"\x01\0\0" + P, table=80, rows=4096, flags=4096, records=(), row=None, entries=(),
+                 states=None, method=1, row_count=0, change=None, ring=64):
+        self.event = event
+        self.table = bytearray((b"".join(records) + bytes(65540))[:table])
+        self.rows, self.flags = [9] * rows, bytearray(flags)
+        if row:
+            self.rows[row[0]], self.flags[row[0]] = row[1:]
+        self.ring = (list(entries) + [Entry(2**32 - 1, 9, 0)] * 64)[:ring]
+        self.roster = roster(ONE if states is None else states, method, row_count)
+        if change:
+            change(self.roster)
+
+    def buffers(self):
+        return self.table, self.rows, self.flags, self.ring, self.roster
+
+    def images(self):
+        return session.Session.images(self)
+
+
+def line(name, case, start=False):
+    reply = model.start(*case.buffers()) if start else model.event(*case.buffers(), case.event)
+    digests = ["%016x" % session.fnv64(image) for image in case.images()]
+    if len(case.ring) != 64:
+        digests[3] = "-"
+    return "%s: %d %d %d %d %d %s" % (name, *reply, model.used_records(case.table), " ".join(digests))
+
+
+def lengths():
+    for length in (0, 19, 20, 21, 65520, 65540):
+        yield line("table of %d" % length, Case(table=length))
+    for length in (4095, 4097):
+        yield line("rows of %d" % length, Case(rows=length))
+    for length in (4095, 4097):
+        yield line("flags of %d" % length, Case(flags=length))
+    yield line("ring of 63", Case(ring=63))
+    yield line("ring of 63, short event", Case(ring=63, event=b"\x01\0\0"))
+    yield line("table of 21, unsound roster", Case(table=21, method=4))
+
+
+def starts():
+    a, b = record(P, 1, 1, b"\x07\x07"), record(Q, 9, 5)
+
+    def unsound(r):
+        r.count, r.servers[63], r.states[63] = 64, 1, 3
+
+    for name, lengths_ in (("start", {}), ("start, table of 65520", {"table": 65520}),
+                           ("start, table of 65540", {"table": 65540}),
+                           ("start, flags of 4095", {"table": 20, "flags": 4095})):
+        yield line(name, Case(records=(a, b, a, a), row=(0, 9, 2), method=4, row_count=9, change=unsound,
+                              **lengths_), True)
+
+
+def places(*pairs, count=None, later=()):
+    """A change that writes the first places, the count, and later places."""
+    def change(r):
+        for place, pair in list(enumerate(pairs)) + list(later):
+            r.servers[place], r.states[place] = pair
+        r.count = len(pairs) if count is None else count
+    return change
+
+
+def rosters():
+    good = (3, 1), (5, 2)
+    for name, change in (
+            ("servers in order", places(*good)), ("servers out of order", places((5, 1), (3, 2))),
+            ("server 0", places((0, 1), (3, 2))), ("a server twice", places((3, 1), (3, 2))),
+            ("state 0", places((3, 1), (5, 0))), ("state 3", places((3, 3), (5, 2))),
+            ("count 65", places(*good, count=65)), ("count 1 of 2", places(*good, count=1)),
+            ("a server past the count", places(*good, later=((63, (7, 0)),))),
+            ("a state past the count", places(*good, later=((63, (0, 2)),)))):
+        yield line(name, Case(states={}, change=change))
+    for name, method, row_count in (
+            ("method 0", 0, 0), ("method 4", 4, 0), ("row count 0 under 3", 3, 0),
+            ("row count 4097 under 3", 3, 4097), ("row count 1 under 1", 1, 1), ("row count 1 under 2", 2, 1)):
+        yield line(name, Case(method=method, row_count=row_count))
+    event = Case().event
+    yield line("event of 0 bytes", Case(event=b""))
+    yield line("event of 15 bytes", Case(event=event[:15]))
+    yield line("event of 15 bytes, unsound roster", Case(event=event[:15], method=0))
+
+
+def one_row(name, states, server, flag, row_count=11, **more):
+    return line(name, Case(states=states, method=3 if row_count else 1, row_count=row_count,
+                           row=(ROW, server, flag), **more))
+
+
+def one_entry(name, states, server, track, **more):
+    return line(name, Case(states=states, method=2, entries=[Entry(POINT, server, track)] * 4, **more))
+
+
+def not_working():
+    stray, pair = (record(P, 4),), {1: 1, 4: 2}
+    yield line("the record names an unknown server", Case(records=stray))
+    yield line("the record names a horizon server", Case(records=stray, states=pair))
+    yield one_row("the row names an unknown server", pair, 7, 0)
+    yield one_row("the row names a horizon server", pair, 4, 0)
+    yield one_row("the row names 0", pair, 0, 1)
+    yield one_entry("the entry names an unknown server", pair, 7, 0)
+    yield one_entry("the entry names a horizon server", pair, 4, 1)
+    nobody = {2: 2, 4: 2}
+    yield line("nobody works and the record names a horizon server", Case(records=stray, states=nobody))
+    yield line("an end of that record", Case(event=b"\x02\0\0" + P, records=stray, states=nobody))
+    yield line("configure with a record", Case(event=with_settings(1, 0), records=stray, states={}))
+    yield one_row("the record is working, the row is not", {1: 1, 3: 2}, 3, 0, records=(record(P, 1),))
+
+
+def rows_and_rings():
+    both = {1: 1, 2: 1}
+    for server, flag in ((1, 0), (2, 0), (1, 1), (2, 2), (2, 255)):
+        yield one_row("row of %d, flag %d" % (server, flag), both, server, flag)
+    for server, track in ((1, 0), (2, 0), (1, 1), (2, 2), (2, 255)):
+        yield one_entry("entry of %d, track %d" % (server, track), both, server, track)
+    three, out = {1: 1, 2: 1, 3: 1}, Entry(POINT, 9, 0)
+    yield line("ring out of order", Case(states=three, method=2, entries=(
+        Entry(0, 1, 0), Entry(POINT + 9, 2, 0), Entry(POINT, 3, 1), out)))
+    yield line("no entry in use at or past the point", Case(states=three, method=2, entries=(
+        Entry(0, 1, 0), Entry(1, 2, 1), Entry(2, 3, 1), out)))
+
+
+def tables():
+    pair, both = {1: 1, 1 + HALF: 2}, {1: 1, 2: 1}
+    stray = (record(Q, 1), record(b"\xff" * 13, 5, 255, b"\xff\xff"), record(R, 1))
+    yield line("an append joins a stray record", Case(records=stray, states=pair))
+    yield line("an append into the last place", Case(records=stray, states=pair, table=40))
+    yield line("unsafe and no room", Case(records=(record(Q, 1), record(R, 1)), states=pair, table=40))
+    twice = (record(P, 1), record(Q, 2), record(P, 2), record(R, 1))
+    yield line("packet of a key twice", Case(records=twice, states=both))
+    yield line("end of a key twice", Case(event=b"\x02\0\0" + P, records=twice, states=both))
+    yield line("remove working of a key twice", Case(event=with_server(4, 1), records=twice, states=both))
+    odd = record(Q, 1, 1, b"\x07\x07")
+    yield line("an end moves filler", Case(event=b"\x02\0\0" + P, records=(
+        record(P, 1), odd, record(R, 5, 2, b"\x09\x09"), record(P, 1))))
+    yield line("remove working moves filler", Case(event=with_server(4, 4), states={1: 1, 4: 1}, records=(
+        record(P, 4, 1, b"\x05\x05"), odd, record(R, 4, 1, b"\x09\x09"),
+        record(b"\x05" * 13, 4, 0, b"\x06\x06"))))
+
+
+def changes():
+    working = {1: 1, 4: 1}
+    yield one_row("remove working under 3", working, 7, 5, event=with_server(4, 4))
+    yield one_row("configure 6 rows", {}, 7, 5, 0, event=with_settings(3, 6))
+    yield one_entry("remove working under 2", working, 7, 5, event=with_server(4, 4))
+    yield one_entry("add horizon under 2", working, 7, 5, event=with_server(5, 7))
+    yield one_entry("remove horizon under 2", {1: 1, 4: 2}, 7, 5, event=with_server(6, 4))
+
+
+def lines():
+    for group in (lengths, starts, rosters, not_working, rows_and_rings, tables, changes):
+        yield from group()
+
+
+if __name__ == "__main__":
+    if len(sys.argv) != 1:
+        sys.exit("usage: lent_program.py > lines")
+    for found in lines():
+        print(found)
