@@ -3,7 +3,7 @@ use mathlib.Core.Path.{_≡_, refl, sym, _∙_, ap, subst}
 use Prim.Native.Nat.{ℕ, _+_, _<_, _≤_, suc, min}
 use native.Mathlib.Nat.{lt-of-lt-of-le, min-le-left, suc-ne-zero, zero-lt-suc}
 use native.Mathlib.Omega.{arith}
-use mathlib.Core.Bool.{not}
+use mathlib.Core.Bool.{Bool, cond, not}
 use mathlib.Core.List.{List, [], _∷_}
 use lib.ListN.{length, take, drop, length-take, drop-of-length-le}
 use lib.Dec.{T, eqb}
@@ -26,6 +26,15 @@ not-empty (x ∷ es) t = zero-lt-suc (length es)
 abbrev pub reach : List Entry → ℕ → ℕ
 reach es places = min places (length es)
 
+-- an entry that is not below the point is read, a lower one is passed
+first-here : (point : ℕ) (e : Entry) (l : List Entry) (otherwise : Entry) → point ≤ e .position → firstFrom point (e ∷ l) otherwise ≡ e
+unfolding firstFrom
+first-here point e l otherwise h = ap (λ (b : Bool). cond b e (firstFrom point l otherwise)) (le-leb _ _ h)
+
+first-later : (point : ℕ) (e : Entry) (l : List Entry) (otherwise : Entry) → e .position < point → firstFrom point (e ∷ l) otherwise ≡ firstFrom point l otherwise
+unfolding firstFrom
+first-later point e l otherwise h = ap (λ (b : Bool). cond b e (firstFrom point l otherwise)) (lt-leb _ _ h)
+
 module _ (es : List Entry) (places point : ℕ) where
   -- what the entries from index i on give
   abbrev pub gives-from : ℕ → Entry
@@ -45,12 +54,10 @@ module _ (es : List Entry) (places point : ℕ) where
         next = omega arith
 
     pub found : i < reach es places → point ≤ at es i .position → at es i ≡ entryRead places point es
-    unfolding firstFrom
-    found l h = rw (here l, le-leb _ _ h) at so
+    found l h = sym (first-here point (at es i) _ _ h) ∙ (rw (here l) at so)
 
     pub passed : i < reach es places → at es i .position < point → gives-from (i + 1) ≡ entryRead places point es
-    unfolding firstFrom
-    passed l h = rw (here l, lt-leb _ _ h) at so
+    passed l h = sym (first-later point (at es i) _ _ h) ∙ (rw (here l) at so)
 
     pub none : reach es places ≤ i → at es 0 ≡ entryRead places point es
     unfolding firstFrom
