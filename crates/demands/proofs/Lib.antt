@@ -13,3 +13,4 @@ pub mod Witness
 pub mod Impostors
 pub mod Pretenders
 pub mod Roomless
+pub mod EveryEngine

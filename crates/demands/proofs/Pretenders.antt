@@ -18,7 +18,7 @@ use Rattle.ring.specs.Ring.{blank}
 use Rattle.ringplan.specs.Plan.{some}
 use Rattle.rules.specs.Answer.{Told}
 use Rattle.rules.specs.Rules.{barred, effect, judged, sizesRight, sizedFor}
-use Rattle.histories.specs.Histories.{World, AllBytes}
+use Rattle.histories.specs.Histories.{World, startAccepted, AllBytes}
 use Rattle.demands.specs.Demands.{Engine, ours, Demand2}
 use Rattle.demands.proofs.Obeys.{start-sizes, ours-obeys}
 use Rattle.demands.proofs.Same.{unserved-seen, same-engines, same-answers}
@@ -81,20 +81,23 @@ module _ (n : ℕ) (E : Engine) (d : Demand2 n E) where
       (ap (λ (x : Told). x .accepted) (sym (all (stand 1) (stand 1) (refl, (refl, tt)))) ∙ again)
 
 -- demand 2 can be met at each size of table that a start accepts, so none of this is said of no engine at all
-abbrev blankWorld : ℕ → World
+abbrev pub blankWorld : ℕ → World
 blankWorld n =
     record {
       state = record { table = replicate n 0; rows = replicate 4096 0; flags = replicate 4096 0; roster = emptyRoster };
       ring = replicate 64 blank;
     }
 
-blank-sized : (n : ℕ) → 0 < n → n ≤ 65520 → n % 20 ≡ 0 → sizedFor 64 (blankWorld n .state) ≡ true
-unfolding sizesRight
-blank-sized n above few whole =
-    rw (length-replicate {A = ℕ} n 0, ne-eqb n 0 (omega arith), le-leb n 65520 few, eq-eqb (n % 20) 0 whole)
+module _ (n : ℕ) (above : 0 < n) (few : n ≤ 65520) (whole : n % 20 ≡ 0) where
+  blank-sized : sizedFor 64 (blankWorld n .state) ≡ true
+  unfolding sizesRight
+  blank-sized = rw (length-replicate {A = ℕ} n 0, ne-eqb n 0 (omega arith), le-leb n 65520 few, eq-eqb (n % 20) 0 whole)
 
-pub met : (n : ℕ) → 0 < n → n ≤ 65520 → n % 20 ≡ 0 → (E : Engine) × Demand2 n E
-met n above few whole =
-    let w = blankWorld n in
-    let obeys = ours-obeys w (start-sizes w ∙ blank-sized n above few whole) in
-    (ours w, subst (λ (m : ℕ). Demand2 m (ours w)) (length-replicate n 0) obeys)
+  pub blank-starts : startAccepted (blankWorld n) ≡ true
+  blank-starts = start-sizes (blankWorld n) ∙ blank-sized
+
+  pub blank-obeys : Demand2 n (ours (blankWorld n))
+  blank-obeys = subst (λ (m : ℕ). Demand2 m (ours (blankWorld n))) (length-replicate n 0) (ours-obeys (blankWorld n) blank-starts)
+
+  pub met : (E : Engine) × Demand2 n E
+  met = (ours (blankWorld n), blank-obeys)

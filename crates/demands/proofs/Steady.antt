@@ -19,7 +19,7 @@ use Rattle.demands.specs.Demands.{ours, Throughout, Demand3}
 use Rattle.demands.proofs.SteadyEvents.{changeOf, served-accepted, goes}
 use Rattle.demands.proofs.SteadyKept.{Kept, Fair, kept-first, kept-after, kept-last}
 
-bytes-behind : (between h : List (List ℕ)) → AllBytes (between ++ h) → AllBytes h
+pub bytes-behind : (between h : List (List ℕ)) → AllBytes (between ++ h) → AllBytes h
 bytes-behind [] h b = b
 bytes-behind (bytes ∷ between) h b = bytes-behind between h (b .1)
 
