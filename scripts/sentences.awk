@@ -7,6 +7,24 @@ function key(  i, same) {
     if (same) return "the key of thirteen bytes " $11
     return "the key " $11 "." $12 "." $13 "." $14 " to " $15 "." $16 "." $17 "." $18
 }
+# the movers in a state, in the order in which they came into it, and their number in `count`
+function those(state,  i, text) {
+    count = 0
+    for (i = 1; i <= came; i++) if (now[who[i]] == state && at[who[i]] == i) { count++; text = text (text == "" ? "" : ", ") who[i] }
+    return text
+}
+function moves(mover, state) { now[mover] = state; who[++came] = mover; at[mover] = came }
+# who would take an unsafe session once it joins
+function takers(  list) {
+    list = those(2)
+    return count == 1 ? "standby " list " would take it once it joins" : "one of the standbys " list " would take it once it joins"
+}
+# why a session is safe
+function safety(  list) {
+    list = those(2)
+    if (count == 0) return "Safe, no record needed: nobody stands by."
+    return "Safe, no record needed: " (count == 1 ? "standby " list " would not take it." : "none of the standbys " list " would take it.")
+}
 function records(n) { return n == 1 ? "1 record" : n " records" }
 BEGIN {
     why[1] = "the record is malformed"; why[2] = "0 is no mover"; why[3] = "the mover is held already"
@@ -21,9 +39,9 @@ BEGIN {
     if ($3 != 0) text = "Refused: " why[$3] ". Nothing changes. (" ($2 in what ? what[$2] : "unknown kind") (($2 >= 3 && $2 <= 6) ? " " named(11) : "") ")"
     else if ($2 == 1) {
         if ($5 == 1) text = "A packet of " key() " goes to mover " $4 ", as its record (place " $6 ") says: whatever joins, the tape stays where it is."
-        if ($5 == 2) text = "A packet of " key() " goes to mover " $4 ". Safe: no standby would take it, so no record is needed."
-        if ($5 == 3) text = "A packet of " key() " goes to mover " $4 " and is recorded: a standby would take it once it joins."
-        if ($5 == 4) text = "A packet of " key() " goes to mover " $4 ". A standby would take it once it joins, but the table is full."
+        if ($5 == 2) text = "A packet of " key() " goes to mover " $4 ". " safety()
+        if ($5 == 3) text = "A packet of " key() " goes to mover " $4 " and is recorded, because " takers() "."
+        if ($5 == 4) text = "A packet of " key() " goes to mover " $4 ", and isn't recorded, though " takers() ": the table is full."
     }
     else if ($2 == 2) text = ($5 == 5) ? "The session of " key() " ends, and its record goes." : "The session of " key() " ends. It had no record, so there is nothing to remove."
     else if ($2 == 3) text = "Mover " named(11) " comes out of the horizon and works."
@@ -31,6 +49,7 @@ BEGIN {
     else if ($2 == 5) text = "Mover " named(11) " stands by in the horizon."
     else if ($2 == 6) text = "Mover " named(11) " leaves the horizon."
     else if ($2 == 7) text = "Configured: method " $11 " (" ($11 == 1 ? "HRW" : $11 == 2 ? "ring" : "row table, rows " $12 * 256 + $13) ")."
+    if ($3 == 0 && $2 >= 3 && $2 <= 6) moves(named(11), $2 == 3 ? 1 : $2 == 6 ? 0 : 2)
     printf "%-18s %s\n", line, text
     before = $7
 }
