@@ -79,8 +79,8 @@ module _ (t key : List ℕ) (at : ℕ) (whole : length key ≡ 13) (fits : at + 
             (λ b. rw b (λ f. rw (same-bytes (words-bytes (eqb-true _ _ b) (eqb-true _ _ f))) (same-self key)))
             (λ b. rw b (λ f. clash f refl))
 
--- the test by words that `find` makes is the comparison of the bytes
-pub spelt-same : (t key : List ℕ) (at front back : ℕ) → Spelt key front back → at + 13 ≤ length t → BytesAt t at 8 → BytesAt t (at + 5) 8
-    → cond (eqb (wordAt t (at + 5)) back) (eqb (wordAt t at) front) false ≡ same (take 13 (drop at t)) key
-spelt-same t key at front back k fits bt bt5 =
-    rw (k .front-word, k .back-word) (words-same t key at (k .whole) fits bt bt5 (k .front-bytes) (k .back-bytes))
+-- the answer r of the test by words is that of the bytes' comparison
+pub spelt-same : (t key : List ℕ) (at front back : ℕ) (r : Bool) → Spelt key front back → at + 13 ≤ length t → BytesAt t at 8 → BytesAt t (at + 5) 8
+    → r ≡ cond (eqb (wordAt t (at + 5)) back) (eqb (wordAt t at) front) false → same (take 13 (drop at t)) key ≡ r
+spelt-same t key at front back r k fits bt bt5 e =
+    sym (words-same t key at (k .whole) fits bt bt5 (k .front-bytes) (k .back-bytes)) ∙ sym (rw (k .front-word, k .back-word) at e)

@@ -15,17 +15,26 @@ pub enum Found {
     Nothing(usize),
 }
 
-// How many records are used.
+// How many records are used. Two tags are looked at in a turn: a table with few records then costs little.
 pub fn used(table: &[u8]) -> usize
     ensures { λ r. ⌜ r ≡ used-of (now (table .entry)) ⌝ }
 {
     let room = table.len() / 20;
     let mut i = 0;
-    while i < room {
-        if !used_tag(table[i * 20 + 13]) {
+    while i + 1 < room {
+        let at = i * 20 + 13;
+        if !used_tag(table[at]) {
             return i;
         }
-        i += 1;
+        if !used_tag(table[at + 20]) {
+            return i + 1;
+        }
+        i += 2;
+    }
+    if i < room {
+        if used_tag(table[i * 20 + 13]) {
+            return i + 1;
+        }
     }
     i
 }

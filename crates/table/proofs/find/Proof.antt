@@ -86,7 +86,7 @@ returns-2 c =
     let h = c .before .has-words .ensures in
     let tag = sym (u .before .used-tag .ensures) ∙ not-false _ (u .if1 .left) in
     let here : same (take 13 (drop (l .loop .i * 20) (p .table .now))) (p .t2) ≡ true =
-    sym (spelt-same (p .table .now) (p .t2) (l .loop .i * 20) _ _ key (omega arith) (h .1 .0) (h .1 .1)) ∙ sym (h .0) ∙ c .if2 .taken in
+    spelt-same (p .table .now) (p .t2) (l .loop .i * 20) _ _ _ key (omega arith) (h .1 .0) (h .1 .1) (h .0) ∙ c .if2 .taken in
     find-here (p .table .now) (l .loop .i) (omega arith) (p .t2) _ (l .loop .inv .1 (p .t2) key) tag here
 
 add-i : tie.Need-add-i Inv-loop μ-loop
@@ -106,7 +106,7 @@ loop-again c =
       search needs,
       λ key k.
           let here : same (take 13 (drop (l .loop .i * 20) t)) key ≡ false =
-          sym (spelt-same t key (l .loop .i * 20) _ _ k (omega arith) (h .1 .0) (h .1 .1)) ∙ sym (h .0) ∙ c .if2 .left in
+          spelt-same t key (l .loop .i * 20) _ _ _ k (omega arith) (h .1 .0) (h .1 .1) (h .0) ∙ c .if2 .left in
           find-more t (l .loop .i) (omega arith) key _ (l .loop .inv .1 key k) tag here,
     )
 
