@@ -1,20 +1,21 @@
--- One more server put among the first n of an order, in place: what the loop has done and what it carries decide the whole.
+-- One more key put among the first n of an order, in place: what the loop has done and what it carries decide the whole.
 use Prim.Native.Nat.{ℕ, suc, _+_, _-_, _<_, _≤_}
 use mathlib.Core.Bool.{Bool, true, false}
 use mathlib.Core.List.{List, [], _∷_, _++_}
 use mathlib.Core.Path.{_≡_, refl, sym, ap, _∙_}
 use native.Mathlib.Numerals.{add-one}
 use native.Mathlib.Omega.{arith}
+use lib.Dec.{ltb}
 use lib.ListN.{length, getD, take, drop, set, length-take, length-set, drop-of-length-le}
 use lib.Seq.{take-suc, take-suc-set, drop-cons, drop-set-lt, drop-drop, getD-take, append-snoc}
-use Rattle.ringplan.specs.Plan.{standsBefore, placed}
+use Rattle.ringplan.specs.Keys.{keyPlaced}
 
 -- at index i of the first n of o₀, with o as it now is and c carried on
 pub record Placing (o₀ : List ℕ) (n s : ℕ) (o : List ℕ) (c i : ℕ) : Type 0 where
   pub within : i ≤ n
   pub sized : length o ≡ length o₀
   pub behind : drop i o ≡ drop i o₀
-  pub so : take i o ++ placed c (drop i (take n o₀)) ≡ placed s (take n o₀)
+  pub so : take i o ++ keyPlaced c (drop i (take n o₀)) ≡ keyPlaced s (take n o₀)
 
 pub placing-none : (o : List ℕ) (n s : ℕ) → Placing o n s o s 0
 placing-none o n s = record { within = omega arith; sized = refl; behind = refl; so = refl }
@@ -45,8 +46,8 @@ module _ (o₀ : List ℕ) (n s : ℕ) (o : List ℕ) (c i : ℕ) (room : n < le
   split = rw (add-one, same-here) (drop-cons (take n o₀) i 0 short)
 
   -- the one that stands there stays
-  pub placing-stays : standsBefore (getD o i 0) c ≡ true → Placing o₀ n s o c (i + 1)
-  unfolding placed
+  pub placing-stays : ltb (getD o i 0) c ≡ true → Placing o₀ n s o c (i + 1)
+  unfolding keyPlaced
   placing-stays t =
       record {
         within = omega arith;
@@ -55,12 +56,12 @@ module _ (o₀ : List ℕ) (n s : ℕ) (o : List ℕ) (c i : ℕ) (room : n < le
         so =
             rw
             (add-one, take-suc o i 0 in-new, ← add-one)
-            (append-snoc (take i o) (getD o i 0) (placed c (drop (i + 1) (take n o₀))) ∙ (rw (split, t) at (p .so)));
+            (append-snoc (take i o) (getD o i 0) (keyPlaced c (drop (i + 1) (take n o₀))) ∙ (rw (split, t) at (p .so)));
       }
 
   -- the one that is carried takes its place, and it is carried on
-  pub placing-swaps : standsBefore (getD o i 0) c ≡ false → Placing o₀ n s (set o i c) (getD o i 0) (i + 1)
-  unfolding placed
+  pub placing-swaps : ltb (getD o i 0) c ≡ false → Placing o₀ n s (set o i c) (getD o i 0) (i + 1)
+  unfolding keyPlaced
   placing-swaps f =
       record {
         within = omega arith;
@@ -69,13 +70,13 @@ module _ (o₀ : List ℕ) (n s : ℕ) (o : List ℕ) (c i : ℕ) (room : n < le
         so =
             rw
             (add-one, take-suc-set o i c in-new, ← add-one)
-            (append-snoc (take i o) c (placed (getD o i 0) (drop (i + 1) (take n o₀))) ∙ (rw (split, f) at (p .so)));
+            (append-snoc (take i o) c (keyPlaced (getD o i 0) (drop (i + 1) (take n o₀))) ∙ (rw (split, f) at (p .so)));
       }
 
 -- at the end the one that is carried goes behind the others
 pub placing-done : (o₀ : List ℕ) (n s : ℕ) (o : List ℕ) (c i : ℕ) → n < length o₀ → n ≤ i → Placing o₀ n s o c i
-    → take (n + 1) (set o n c) ≡ placed s (take n o₀)
-unfolding placed
+    → take (n + 1) (set o n c) ≡ keyPlaced s (take n o₀)
+unfolding keyPlaced
 placing-done o₀ n s o c i room end p =
     let e : i ≡ n = omega (arith, p .within) in
     let q : drop n (take n o₀) ≡ [] = drop-of-length-le (take n o₀) {i = n} (simp length-take (omega arith)) in

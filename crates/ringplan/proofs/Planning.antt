@@ -1,5 +1,5 @@
 -- The order of all servers, built from the last one on, and the entries laid out in a plan.
-use Prim.Native.Nat.{ℕ, suc, _+_, _-_, _<_, _≤_}
+use Prim.Native.Nat.{ℕ, suc, _+_, _*_, _-_, _/_, _^_, _<_, _≤_}
 use mathlib.Core.Bool.{Bool, true, false, cond}
 use mathlib.Core.List.{List, [], _∷_, _++_, map, append-nil}
 use mathlib.Core.Path.{_≡_, refl, sym, ap, _∙_}
@@ -7,25 +7,22 @@ use native.Mathlib.Numerals.{add-one}
 use native.Mathlib.Omega.{arith}
 use lib.Dec.{leb}
 use lib.ListN.{length, getD, take, drop, set, replicate, length-map, length-set, length-replicate, length-append, drop-of-length-le}
-use lib.Seq.{drop-cons, take-suc, length-take-le, set-at, append-snoc, take-at}
+use lib.Seq.{drop-cons, take-suc, take-all, length-take-le, set-at, append-snoc, take-at, getD-drop, getD-take}
 use borrow.Author.Tests.{le-leb, lt-leb}
-use Rattle.hash.specs.Hash.{position, distance}
-use Rattle.sets.specs.Sets.{member}
-use Rattle.sets.proofs.Cases.{clash}
-use Rattle.ranking.specs.declared.Best.{Best}
-use Rattle.ranking.specs.Ranking.{Ranking, choice}
-use Rattle.ranking.specs.Methods.{ring}
-use Rattle.ranking.specs.Best.{bestOf}
+use Rattle.sets.specs.Sets.{member, inState}
 use Rattle.ring.specs.declared.Entry.{Entry}
 use Rattle.ring.specs.Ring.{blank, overlaid}
-use Rattle.ringplan.specs.Plan.{placed, arranged, some, entryOf, entries, drawn, planned}
+use Rattle.ringplan.specs.Plan.{placed, arranged, entryOf, entries, drawn, planned}
+use Rattle.ringplan.specs.Keys.{keyOf, keyServer, keyPlaced, keySought, keyAway, keyEntry}
+use Rattle.ringplan.proofs.Order.{length-arranged}
+use Rattle.ringplan.proofs.Keys.{Fit, fit-all, fit-at, fit-in-state, fit-arranged, getD-map, placed-keys, entry-keys}
 use Rattle.ringplan.proofs.Reading.{length-entries}
 
--- the servers from index i on stand in order in the first n places
+-- the keys of the servers from index i on stand in order in the first n places
 pub record Arranging (servers order : List ℕ) (n i : ℕ) : Type 0 where
   pub counted : n + i ≡ length servers
   pub sized : length order ≡ 64
-  pub so : take n order ≡ arranged (drop i servers)
+  pub so : take n order ≡ map keyOf (arranged (drop i servers))
 
 pub arranging-none : (servers order : List ℕ) → length order ≡ 64 → Arranging servers order 0 (length servers)
 unfolding arranged
@@ -38,19 +35,22 @@ unfolding arranged
 arranged-step servers i j next here =
     ap (λ (k : ℕ). placed (getD servers j 0) (arranged (drop k servers))) (sym next) ∙ sym (ap arranged (drop-cons servers j 0 here))
 
-pub arranging-more : (servers order order′ : List ℕ) (n i : ℕ) → 0 < i → Arranging servers order n i → length order′ ≡ length order
-    → take (n + 1) order′ ≡ placed (getD servers (i - 1) 0) (take n order) → Arranging servers order′ (n + 1) (i - 1)
-arranging-more servers order order′ n i some-left a l e =
+pub arranging-more : (servers order order′ : List ℕ) (n i k : ℕ) → 0 < i → Arranging servers order n i → length order′ ≡ length order
+    → ((j : ℕ) → getD servers j 0 < 2 ^ 32) → k ≡ keyOf (getD servers (i - 1) 0)
+    → take (n + 1) order′ ≡ keyPlaced k (take n order) → Arranging servers order′ (n + 1) (i - 1)
+arranging-more servers order order′ n i k some-left a l fit q e =
+    let x = getD servers (i - 1) 0 in
     record {
       counted = omega (arith, a .counted);
       sized = l ∙ a .sized;
       so =
           e
-          ∙ ap (placed (getD servers (i - 1) 0)) (a .so)
-          ∙ arranged-step servers i (i - 1) (omega arith) (omega (arith, a .counted));
+          ∙ rw (q, a .so)
+          (placed-keys x (arranged (drop i servers)) (fit (i - 1)) (fit-arranged (drop i servers) (fit-all (drop i servers) (λ j. rw (getD-drop i servers j 0) (fit (i + j)))))
+          ∙ ap (map keyOf) (arranged-step servers i (i - 1) (omega arith) (omega (arith, a .counted))));
     }
 
-pub arranging-done : (servers order : List ℕ) (n i : ℕ) → i ≤ 0 → Arranging servers order n i → take (length servers) order ≡ arranged servers
+pub arranging-done : (servers order : List ℕ) (n i : ℕ) → i ≤ 0 → Arranging servers order n i → take (length servers) order ≡ map keyOf (arranged servers)
 arranging-done servers order n i end a =
     let e : i ≡ 0 = omega arith in
     let q : n ≡ length servers = omega (arith, a .counted) in
@@ -59,39 +59,65 @@ arranging-done servers order n i end a =
 abbrev entry : ℕ → ℕ → ℕ → Entry
 entry q s t = record { position = q; server = s; track = t }
 
--- the entry of a server that works, and of one that doesn't
-module _ (w : List ℕ) (s : ℕ) where
-  pub entry-own : (q : ℕ) → q ≡ position s → member s w ≡ true → record { position = q; server = s; track = 0 } ≡ entryOf w s
-  entry-own q e t = rw (t, e)
+-- the entry of a key, by the ways of the code
+module _ (ws : List ℕ) (k : ℕ) where
+  pub entry-own : (v : ℕ) → v ≡ keyServer k → member k ws ≡ true → record { position = k / 2 ^ 32; server = v; track = 0 } ≡ keyEntry ws k
+  unfolding keyEntry
+  entry-own v e t = rw (t, e)
 
-  module _ (q : ℕ) (b : Best) (e : q ≡ position s) (f : member s w ≡ false)
-      (h : b ≡ bestOf (ring q) (λ x. distance (position x) q) w) where
-    pub entry-none : b .any ≡ false → record { position = q; server = 0; track = 0 } ≡ entryOf w s
-    unfolding bestOf
-    entry-none g = rw (f, e) (none w (ap (λ (x : Best). x .any) (sym h) ∙ g))
-      where
-        none : (v : List ℕ) → bestOf (ring q) (λ x. distance (position x) q) v .any ≡ false
-            → entry (position s) 0 0 ≡ entry (position s) (choice (ring (position s)) v) (cond (some v) 1 0)
-        none [] g = refl
-        none (x ∷ v) g = clash refl g
+  pub entry-none : member k ws ≡ false → length ws ≡ 0 → record { position = k / 2 ^ 32; server = 0; track = 0 } ≡ keyEntry ws k
+  unfolding keyEntry keyAway
+  entry-none t z = rw t (none ws z)
+    where
+      none : (l : List ℕ) → length l ≡ 0 → entry (k / 2 ^ 32) 0 0 ≡ keyAway l k
+      none [] e = refl
+      none (x ∷ l) e = absurd (omega arith)
 
-    pub entry-standby : b .any ≡ true → record { position = q; server = b .server; track = 1 } ≡ entryOf w s
-    unfolding bestOf
-    entry-standby g = rw (f, ap (λ (x : Best). x .server) h) (there w (ap (λ (x : Best). x .any) (sym h) ∙ g))
-      where
-        there : (v : List ℕ) → bestOf (ring q) (λ x. distance (position x) q) v .any ≡ true
-            → entry q (bestOf (ring q) (λ x. distance (position x) q) v .server) 1
-            ≡ entry (position s) (choice (ring (position s)) v) (cond (some v) 1 0)
-        there [] g = clash g refl
-        there (x ∷ v) g = rw e
+  pub entry-next : (n v : ℕ) → n ≡ keySought (k / 2 ^ 32 * 2 ^ 32) ws (getD ws 0 0) → v ≡ keyServer n → member k ws ≡ false → (length ws ≡ 0 → ⊥)
+      → record { position = k / 2 ^ 32; server = v; track = 1 } ≡ keyEntry ws k
+  unfolding keyEntry keyAway
+  entry-next n v en ev t z = rw (t, ev, en) (next ws z)
+    where
+      next : (l : List ℕ) → (length l ≡ 0 → ⊥)
+          → entry (k / 2 ^ 32) (keyServer (keySought (k / 2 ^ 32 * 2 ^ 32) l (getD l 0 0))) 1 ≡ keyAway l k
+      next [] e = absurd (e refl)
+      next (x ∷ l) e = refl
+
+-- all is ready to lay entries out: the servers' keys in order, and those of the working ones, of which there are m
+pub record Ready (held working order keys : List ℕ) (m : ℕ) : Type 0 where
+  pub small : length held ≤ 64
+  pub fits : Fit held
+  pub working-fits : Fit working
+  pub order-sized : length order ≡ 64
+  pub keys-sized : length keys ≡ 64
+  pub few : m ≤ 64
+  pub in-order : take (length held) order ≡ map keyOf (arranged held)
+  pub working-keys : take m keys ≡ map keyOf (arranged working)
+
+pub ready : (held states at-work order keys : List ℕ) (m : ℕ) → length held ≤ 64 → ((j : ℕ) → getD held j 0 < 2 ^ 32)
+    → length order ≡ 64 → length keys ≡ 64 → length at-work ≡ 64 → m ≤ 64 → take m at-work ≡ inState 1 held states
+    → take (length held) order ≡ map keyOf (arranged held) → take (length (take m at-work)) keys ≡ map keyOf (arranged (take m at-work))
+    → Ready held (inState 1 held states) order keys m
+ready held states at-work order keys m small fit so sk sw few w o k =
+    let l : length (take m at-work) ≡ m = length-take-le m at-work (omega arith) in
+    record {
+      small = small;
+      fits = fit-all held fit;
+      working-fits = fit-in-state 1 held states (fit-all held fit);
+      order-sized = so;
+      keys-sized = sk;
+      few = few;
+      in-order = o;
+      working-keys = (rw (l, w) at k);
+    }
 
 -- the first i entries are laid out, and the places behind them are blank
-pub record LaidOut (held working order : List ℕ) (plan : List Entry) (i : ℕ) : Type 0 where
+pub record LaidOut (held working : List ℕ) (plan : List Entry) (i : ℕ) : Type 0 where
   pub within : i ≤ length held
-  pub so : plan ≡ map (entryOf working) (take i order) ++ replicate (64 - i) blank
+  pub so : plan ≡ map (entryOf working) (take i (arranged held)) ++ replicate (64 - i) blank
 
-pub laid-none : (held working order : List ℕ) (plan : List Entry) → plan ≡ replicate 64 blank → LaidOut held working order plan 0
-laid-none held working order plan e = record { within = omega arith; so = e }
+pub laid-none : (held working : List ℕ) (plan : List Entry) → plan ≡ replicate 64 blank → LaidOut held working plan 0
+laid-none held working plan e = record { within = omega arith; so = e }
 
 -- one more laid out, whatever is laid out
 module _ (f : ℕ → Entry) where
@@ -111,22 +137,33 @@ module _ (f : ℕ → Entry) where
       set-at (map f (take i order)) b (replicate (m - (i + 1)) b) (f (getD order i 0)) i l
       ∙ sym (append-snoc (map f (take i order)) (f (getD order i 0)) (replicate (m - (i + 1)) b)))
 
-pub laid-more : (held working order : List ℕ) (plan : List Entry) (i : ℕ) → length held ≤ 64 → length order ≡ 64 → i < length held
-    → LaidOut held working order plan i → LaidOut held working order (set plan i (entryOf working (getD order i 0))) (i + 1)
-laid-more held working order plan i small n here a =
+-- the entry is worked out from a key of the order and from the keys of the working servers
+pub laid-more : (held working order keys : List ℕ) (m : ℕ) (plan : List Entry) (i : ℕ) → i < length held → Ready held working order keys m
+    → LaidOut held working plan i → LaidOut held working (set plan i (keyEntry (take m keys) (getD order i 0))) (i + 1)
+laid-more held working order keys m plan i here r a =
+    let small = r .small in
+    let o = r .in-order in
+    let x = getD (arranged held) i 0 in
+    let within : i < length (arranged held) = omega (arith, length-arranged held) in
+    let k : getD order i 0 ≡ keyOf x =
+    sym (getD-take (length held) order i 0 here) ∙ ap (λ (l : List ℕ). getD l i 0) o ∙ getD-map keyOf (arranged held) i within in
+    let e : keyEntry (take m keys) (getD order i 0) ≡ entryOf working x =
+    rw (r .working-keys, k) (entry-keys working x (fit-at (arranged held) i within (fit-arranged held (r .fits))) (r .working-fits)) in
     record {
       within = omega arith;
       so =
-          ap (λ (p : List Entry). set p i (entryOf working (getD order i 0))) (a .so)
-          ∙ laid-one (entryOf working) order blank 64 i (omega arith) (omega arith);
+          ap (set plan i) e
+          ∙ ap (λ (p : List Entry). set p i (entryOf working x)) (a .so)
+          ∙ laid-one (entryOf working) (arranged held) blank 64 i within (omega arith);
     }
 
-pub laid-done : (held working order : List ℕ) (plan : List Entry) (i : ℕ) → length held ≤ 64 → length held ≤ i → take (length held) order ≡ arranged held
-    → LaidOut held working order plan i → plan ≡ planned held working
+pub laid-done : (held working : List ℕ) (plan : List Entry) (i : ℕ) → length held ≤ 64 → length held ≤ i
+    → LaidOut held working plan i → plan ≡ planned held working
 unfolding planned entries
-laid-done held working order plan i small end o a =
+laid-done held working plan i small end a =
     let e : i ≡ length held = omega (arith, a .within) in
-    rw (le-leb (length held) 64 small) (a .so ∙ rw (e, o))
+    let all : take (length held) (arranged held) ≡ arranged held = take-all (length held) (arranged held) (omega (arith, length-arranged held)) in
+    rw (le-leb (length held) 64 small) (a .so ∙ rw (e, all))
 
 pub planned-none : (held working : List ℕ) (plan : List Entry) → 64 < length held → plan ≡ replicate 64 blank → plan ≡ planned held working
 unfolding planned

@@ -2,7 +2,7 @@
 use Prim.Native.Nat.{ℕ, suc, _+_, _<_, _≤_}
 use mathlib.Core.Bool.{Bool, true, false, cond}
 use mathlib.Core.List.{List, [], _∷_}
-use mathlib.Core.Path.{_≡_, sym, _∙_}
+use mathlib.Core.Path.{_≡_, refl, sym, _∙_}
 use native.Mathlib.Numerals.{add-one}
 use native.Mathlib.Omega.{arith}
 use lib.Dec.{eqb, ltb}
@@ -28,24 +28,32 @@ module _ (s : List ℕ) (last i : ℕ) (W : Bool) (so : rising last (drop i s) �
   unfolding rising
   rising-end h = rw (drop-of-length-le s {i = i} h) at so
 
-module _ (s : List ℕ) (i : ℕ) (W : Bool) (so : allStated (drop i s) ≡ W) where
+module _ (s : List ℕ) (good : Bool) (i : ℕ) (W : Bool) (so : cond good (allStated (drop i s)) false ≡ W) where
   stated-step : i < length s → allStated (drop i s)
       ≡ cond (eqb (getD s i 0) 1) (allStated (drop (i + 1) s)) (cond (eqb (getD s i 0) 2) (allStated (drop (i + 1) s)) false)
   unfolding allStated
   stated-step h = rw (add-one, drop-cons s i 0 h)
 
-  pub stated-stop : i < length s → (getD s i 0 ≡ 1 → ⊥) → (getD s i 0 ≡ 2 → ⊥) → false ≡ W
-  stated-stop h m n = sym (rw (ne-eqb _ _ m, ne-eqb _ _ n) at (stated-step h)) ∙ so
+  pub stated-not : i < length s → (getD s i 0 ≡ 1 → ⊥) → (getD s i 0 ≡ 2 → ⊥) → false ≡ W
+  stated-not h m n = never good ∙ (rw (stated-step h, ne-eqb _ _ m, ne-eqb _ _ n) at so)
+    where
+      never : (b : Bool) → false ≡ cond b false false
+      never true = refl
+      never false = refl
 
-  pub stated-working : i < length s → getD s i 0 ≡ 1 → allStated (drop (i + 1) s) ≡ W
-  stated-working h e = sym (rw e at (stated-step h)) ∙ so
+  pub stated-working : i < length s → getD s i 0 ≡ 1 → cond good (allStated (drop (i + 1) s)) false ≡ W
+  stated-working h e = rw (stated-step h, e) at so
 
-  pub stated-standby : i < length s → getD s i 0 ≡ 2 → allStated (drop (i + 1) s) ≡ W
-  stated-standby h e = sym (rw e at (stated-step h)) ∙ so
+  pub stated-standby : i < length s → getD s i 0 ≡ 2 → cond good (allStated (drop (i + 1) s)) false ≡ W
+  stated-standby h e = rw (stated-step h, e) at so
 
-  pub stated-end : length s ≤ i → true ≡ W
+  pub stated-end : length s ≤ i → good ≡ W
   unfolding allStated
-  stated-end h = rw (drop-of-length-le s {i = i} h) at so
+  stated-end h = plain good ∙ (rw (drop-of-length-le s {i = i} h) at so)
+    where
+      plain : (b : Bool) → b ≡ cond b true false
+      plain true = refl
+      plain false = refl
 
 module _ (x : ℕ) (s : List ℕ) (i : ℕ) where
   place-step : i < length s → placeIn x (drop i s) ≡ cond (eqb (getD s i 0) x) 0 (suc (placeIn x (drop (i + 1) s)))

@@ -22,35 +22,35 @@ pub fn rising(s: &[u32]) -> bool
     true
 }
 
-// Whether each state is working or standby.
+// Whether each state is working or standby. All are read, with no early end: so they go many at a time.
 pub fn stated(s: &[u8]) -> bool
     ensures { λ r. ⌜ r ≡ allStated (now (s .entry)) ⌝ }
 {
+    let mut good = true;
     let mut i = 0;
     while i < s.len() {
         let x = s[i];
         if x != 1 {
             if x != 2 {
-                return false;
+                good = false;
             }
         }
         i += 1;
     }
-    true
+    good
 }
 
-// Whether every place is zero.
+// Whether every place is zero. All are read, with no early end: so they go many at a time.
 pub fn zeros(s: &[u32]) -> bool
     ensures { λ r. ⌜ r ≡ allZero (now (s .entry)) ⌝ }
 {
+    let mut bits: u32 = 0;
     let mut i = 0;
     while i < s.len() {
-        if s[i] != 0 {
-            return false;
-        }
+        bits = bits | s[i];
         i += 1;
     }
-    true
+    bits == 0
 }
 
 // The place of a server; the number of places where it isn't there.

@@ -4,6 +4,8 @@ use mathlib.Core.Bool.{Bool, true, false, cond}
 use mathlib.Core.List.{List, [], _∷_}
 use mathlib.Core.Path.{_≡_, refl, sym, ap, _∙_}
 use native.Mathlib.Numerals.{add-one}
+use native.Mathlib.Omega.{arith}
+use lib.Bits.{bitOr, or-zero-l, or-add-and, and-le-r}
 use lib.Dec.{eqb}
 use lib.ListN.{length, getD, drop, replicate, drop-of-length-le}
 use lib.Seq.{drop-cons}
@@ -35,20 +37,33 @@ module _ (a b : List ℕ) (i : ℕ) (W : Bool) (so : same (drop i a) (drop i b) 
   unfolding same
   same-end h k = rw (drop-of-length-le a {i = i} h, drop-of-length-le b {i = i} k) at so
 
-module _ (s : List ℕ) (i : ℕ) (W : Bool) (so : allZero (drop i s) ≡ W) where
+-- a running `or` is zero exactly where all that went into it is
+or-none : (a b : ℕ) → eqb (bitOr a b) 0 ≡ cond (eqb a 0) (eqb b 0) false
+or-none a b =
+    both
+    (eqb a 0)
+    (λ e. let z : a ≡ 0 = eqb-true a 0 e in rw e (ap (λ (n : ℕ). eqb n 0) (ap (λ (n : ℕ). bitOr n b) z ∙ or-zero-l b)))
+    (λ e. rw e (ne-eqb (bitOr a b) 0 (λ z. clash (eq-eqb a 0 (omega (arith, or-add-and a b, and-le-r a b))) e)))
+
+module _ (s : List ℕ) (bits i : ℕ) (W : Bool) (so : cond (eqb bits 0) (allZero (drop i s)) false ≡ W) where
   zero-step : i < length s → allZero (drop i s) ≡ cond (eqb (getD s i 0) 0) (allZero (drop (i + 1) s)) false
   unfolding allZero
   zero-step h = rw (add-one, drop-cons s i 0 h)
 
-  pub zero-stop : i < length s → (getD s i 0 ≡ 0 → ⊥) → false ≡ W
-  zero-stop h n = sym (rw (ne-eqb _ _ n) at (zero-step h)) ∙ so
+  pub zero-more : i < length s → cond (eqb (bitOr bits (getD s i 0)) 0) (allZero (drop (i + 1) s)) false ≡ W
+  zero-more h = rw (or-none bits (getD s i 0)) (nested (eqb bits 0) (eqb (getD s i 0) 0) ∙ rw (zero-step h) at so)
+    where
+      nested : (p q : Bool) → cond (cond p q false) (allZero (drop (i + 1) s)) false ≡ cond p (cond q (allZero (drop (i + 1) s)) false) false
+      nested true q = refl
+      nested false q = refl
 
-  pub zero-more : i < length s → getD s i 0 ≡ 0 → allZero (drop (i + 1) s) ≡ W
-  zero-more h e = sym (rw (eq-eqb _ _ e) at (zero-step h)) ∙ so
-
-  pub zero-end : length s ≤ i → true ≡ W
+  pub zero-end : length s ≤ i → eqb bits 0 ≡ W
   unfolding allZero
-  zero-end h = rw (drop-of-length-le s {i = i} h) at so
+  zero-end h = plain (eqb bits 0) ∙ (rw (drop-of-length-le s {i = i} h) at so)
+    where
+      plain : (p : Bool) → p ≡ cond p true false
+      plain true = refl
+      plain false = refl
 
 -- the tests mean what they say
 pub same-equal : (a b : List ℕ) → same a b ≡ true → a ≡ b

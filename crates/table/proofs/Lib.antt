@@ -1,3 +1,4 @@
+pub mod Keys
 pub mod Places
 pub mod Moves
 pub mod Parts

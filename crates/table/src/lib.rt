@@ -4,6 +4,9 @@ ghost use mathlib.Core.List.{_++_};
 ghost use Prim.Native.Nat.{_+_, _*_, _-_, _<_, _≤_};
 ghost use lib.ListN.{length, take, drop, replicate};
 ghost use lib.Seq.{paste};
+ghost use mathlib.Core.Bool.{false, cond};
+ghost use lib.Dec.{eqb};
+ghost use Rattle.words.specs.Words.{wordAt, BytesAt};
 ghost use Rattle.table.specs.Table.{usedTag, used as used-of, find as find-of, told, serverAt, newRecord, writtenAfter, removed, removedServer, started};
 
 // Where a key's record is, or, where it has none, how many records are used: either way the number of used records read.
@@ -12,17 +15,26 @@ pub enum Found {
     Nothing(usize),
 }
 
-// How many records are used.
+// How many records are used. Two tags are looked at in a turn: a table with few records then costs little.
 pub fn used(table: &[u8]) -> usize
     ensures { λ r. ⌜ r ≡ used-of (now (table .entry)) ⌝ }
 {
     let room = table.len() / 20;
     let mut i = 0;
-    while i < room {
-        if !used_tag(table[i * 20 + 13]) {
+    while i + 1 < room {
+        let at = i * 20 + 13;
+        if !used_tag(table[at]) {
             return i;
         }
-        i += 1;
+        if !used_tag(table[at + 20]) {
+            return i + 1;
+        }
+        i += 2;
+    }
+    if i < room {
+        if used_tag(table[i * 20 + 13]) {
+            return i + 1;
+        }
     }
     i
 }
@@ -31,6 +43,8 @@ pub fn used(table: &[u8]) -> usize
 pub fn find(table: &[u8], key: [u8; 13]) -> Found
     ensures { λ r. ⌜ told r ≡ find-of key (now (table .entry)) ⌝ }
 {
+    let front = word_at(&key, 0);
+    let back = word_at(&key, 5);
     let room = table.len() / 20;
     let mut i = 0;
     while i < room {
@@ -38,7 +52,7 @@ pub fn find(table: &[u8], key: [u8; 13]) -> Found
         if !used_tag(table[at + 13]) {
             return Found::Nothing(i);
         }
-        if spans::same(&table[at..at + 13], &key) {
+        if has_words(table, at, front, back) {
             return Found::At(i + 1);
         }
         i += 1;
@@ -176,4 +190,35 @@ fn keep(table: &mut [u8], i: usize, w: usize)
         table[to + k] = table[from + k];
         k += 1;
     }
+}
+
+// The number that the eight bytes from a place on spell, the lowest first; they are bytes.
+fn word_at(s: &[u8], at: usize) -> u64
+    requires { ⌜ at + 8 ≤ length (now s) ⌝ }
+    ensures { λ r. ⌜ (r ≡ wordAt (now (s .entry)) at) × BytesAt (now (s .entry)) at 8 ⌝ }
+{
+    words::join8(
+        s[at],
+        s[at + 1],
+        s[at + 2],
+        s[at + 3],
+        s[at + 4],
+        s[at + 5],
+        s[at + 6],
+        s[at + 7],
+    )
+}
+
+// Whether the 13 bytes from a place on have these two words: their first eight bytes the one, their last eight the other.
+// The last are looked at first: the keys of one address differ there.
+fn has_words(table: &[u8], at: usize, front: u64, back: u64) -> bool
+    requires { ⌜ at + 13 ≤ length (now table) ⌝ }
+    ensures { λ r. ⌜ (r ≡ cond (eqb (wordAt (now (table .entry)) (at + 5)) back) (eqb (wordAt (now (table .entry)) at) front) false)
+        × (BytesAt (now (table .entry)) at 8 × BytesAt (now (table .entry)) (at + 5) 8) ⌝ }
+{
+    let first = word_at(table, at);
+    if word_at(table, at + 5) != back {
+        return false;
+    }
+    first == front
 }

@@ -21,11 +21,14 @@ sub-i c = search needs
 slice-aggregate-place : tie.Need-slice-aggregate-place Inv-loop μ-loop
 slice-aggregate-place c = search needs
 
-mul-place : tie.Need-mul-place Inv-loop μ-loop
-mul-place c = search needs
+mul-key : tie.Need-mul-key Inv-loop μ-loop
+mul-key c = search needs
 
-shared-slice-read-place : tie.Need-shared-slice-read-place Inv-loop μ-loop
-shared-slice-read-place c = search needs
+shared-slice-read-key : tie.Need-shared-slice-read-key Inv-loop μ-loop
+shared-slice-read-key c = search needs
+
+key-requires : tie.Need-key-requires Inv-loop μ-loop
+key-requires c κs = search needs
 
 place-requires : tie.Need-place-requires Inv-loop μ-loop
 place-requires c κs = search needs
@@ -39,9 +42,10 @@ loop-less c = search needs
 loop-again : tie.Need-loop-again Inv-loop μ-loop
 loop-again c =
     let pl = c .before in
-    let l = pl .before .before .before .before in
+    let k = pl .before in
+    let l = k .before .before .before .before in
     let p = l .before .before .args in
-    arranging-more (p .servers .now) (l .loop .order) _ (l .loop .n) (l .loop .i) (omega arith) (l .loop .inv) (pl .place .kept .0) (pl .place .ensures)
+    arranging-more (p .servers .now) (l .loop .order) _ (l .loop .n) (l .loop .i) (k .key .result) (omega arith) (l .loop .inv) (pl .place .kept .0) (λ j. omega (arith, k .before .shared-slice-known2 .given j)) (k .key .ensures) (pl .place .ensures)
 
 returns : tie.Need-returns Inv-loop μ-loop
 returns c =
@@ -58,8 +62,9 @@ arrange-spec =
     loop-holds
     sub-i
     slice-aggregate-place
-    mul-place
-    shared-slice-read-place
+    mul-key
+    shared-slice-read-key
+    key-requires
     place-requires
     add-n
     loop-less

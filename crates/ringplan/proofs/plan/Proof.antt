@@ -1,19 +1,21 @@
 -- `ringplan::plan` meets its contract.
 use Prim.Native.Nat.{_≤_, _-_}
-use mathlib.Core.Path.{_≡_}
+use mathlib.Core.Path.{_≡_, sym}
 use native.Mathlib.Omega.{arith}
-use lib.ListN.{length}
+use lib.ListN.{length, length-take}
+use lib.Seq.{length-take-le}
 use Rattle.sets.specs.Sets.{inState}
-use Rattle.ringplan.proofs.Planning.{LaidOut, laid-none, laid-more, laid-done, planned-none}
+use Rattle.ringplan.proofs.Planning.{Ready, ready, LaidOut, laid-none, laid-more, laid-done, planned-none}
 use borrow.Author.Needs.{needs}
 use Rattle.ringplan.proofs.plan.Statement.{statement}
 use Rattle.ringplan.proofs.plan.Tie as tie
 
 abbrev Inv-loop : tie.InvT-loop
-Inv-loop servers states plan₀ order i₀ plan i = (length servers ≤ 64) × ((length order ≡ 64) × ((length plan ≡ 64) × LaidOut servers (inState 1 servers states) order plan i))
+Inv-loop servers states plan₀ held keys order i₀ plan i =
+    Ready servers (inState 1 servers states) order keys held × ((length plan ≡ 64) × LaidOut servers (inState 1 servers states) plan i)
 
 abbrev μ-loop : tie.MeasureT-loop
-μ-loop servers states plan₀ order i₀ plan i = length servers - i
+μ-loop servers states plan₀ held keys order i₀ plan i = length servers - i
 
 blank-plan-requires : tie.Need-blank-plan-requires Inv-loop μ-loop
 blank-plan-requires c κs = search needs
@@ -23,14 +25,36 @@ returns c =
     let p = c .before .before .before .before .args in
     planned-none (p .servers .now) (inState 1 (p .servers .now) (p .states .now)) _ (omega arith) (c .before .blank-plan .ensures)
 
+working-requires : tie.Need-working-requires Inv-loop μ-loop
+working-requires c κs = search needs
+
+array-share-prefix-at-work : tie.Need-array-share-prefix-at-work Inv-loop μ-loop
+array-share-prefix-at-work c = omega (arith, c .before .working .ensures .0, c .before .working .ensures .1 .0)
+
+slice-aggregate-arrange : tie.Need-slice-aggregate-arrange Inv-loop μ-loop
+slice-aggregate-arrange c = sym (length-take-le _ _ (omega (arith, c .before .before .working .ensures .0, c .before .before .working .ensures .1 .0)))
+
 arrange-requires : tie.Need-arrange-requires Inv-loop μ-loop
-arrange-requires c κs = search needs
+arrange-requires c κs = simp length-take (omega (arith, c .before .before .working .ensures .0))
+
+arrange-requires-2 : tie.Need-arrange-requires-2 Inv-loop μ-loop
+arrange-requires-2 c κs = search needs
 
 loop-holds : tie.Need-loop-holds Inv-loop μ-loop
 loop-holds c =
-    let b = c .before .before in
+    let a = c .before in
+    let w = a .before .before .before in
+    let b = w .before .before in
     let p = b .before .before .before .args in
-    (omega arith, (search needs, (search needs, laid-none (p .servers .now) (inState 1 (p .servers .now) (p .states .now)) (c .arrange .result) (b .blank-plan .result) (b .blank-plan .ensures))))
+    (ready (p .servers .now) (p .states .now) (w .working .result .servers) (c .arrange2 .result) (a .arrange .result) (w .working .result .held) (omega arith) (λ j. omega (arith, b .before .shared-slice-known2 .given j, b .before .before .shared-slice-known .given j)) (search needs) (search needs) (w .working .ensures .1 .0) (w .working .ensures .0) (w .working .ensures .1 .1) (c .arrange2 .ensures) (a .arrange .ensures), (search needs, laid-none (p .servers .now) (inState 1 (p .servers .now) (p .states .now)) (b .blank-plan .result) (b .blank-plan .ensures)))
+
+array-share-prefix-keys : tie.Need-array-share-prefix-keys Inv-loop μ-loop
+array-share-prefix-keys c = search needs
+
+slice-aggregate-entry-for : tie.Need-slice-aggregate-entry-for Inv-loop μ-loop
+slice-aggregate-entry-for c =
+    let r = c .before .before .loop .inv .0 in
+    sym (length-take-le _ _ (omega (arith, r .few, r .keys-sized)))
 
 mul-entry-for : tie.Need-mul-entry-for Inv-loop μ-loop
 mul-entry-for c = search needs
@@ -55,17 +79,19 @@ loop-less c = search needs
 
 loop-again : tie.Need-loop-again Inv-loop μ-loop
 loop-again c =
-    let l = c .before .before in
-    let p = l .before .before .before .before .before .before .args in
-    let o = l .before .arrange .result in
-    (l .loop .inv .0, (l .loop .inv .1 .0, (search needs, rw (c .entry-for .ensures) (laid-more (p .servers .now) (inState 1 (p .servers .now) (p .states .now)) o (l .loop .plan) (l .loop .i) (l .loop .inv .0) (l .loop .inv .1 .0) (omega arith) (l .loop .inv .1 .1 .1)))))
+    let l = c .before .before .before in
+    let a2 = l .before in
+    let a = a2 .before in
+    let w = a .before .before .before in
+    let p = w .before .before .before .before .before .args in
+    (l .loop .inv .0, (search needs, rw (c .entry-for .ensures) (laid-more (p .servers .now) (inState 1 (p .servers .now) (p .states .now)) (a2 .arrange2 .result) (a .arrange .result) (w .working .result .held) (l .loop .plan) (l .loop .i) (omega arith) (l .loop .inv .0) (l .loop .inv .1 .1))))
 
 returns-2 : tie.Need-returns-2 Inv-loop μ-loop
 returns-2 c =
     let l = c .before in
-    let p = l .before .before .before .before .before .before .args in
-    let o = l .before .arrange .result in
-    laid-done (p .servers .now) (inState 1 (p .servers .now) (p .states .now)) o (l .loop .plan) (l .loop .i) (l .loop .inv .0) (omega arith) (l .before .arrange .ensures) (l .loop .inv .1 .1 .1)
+    let w = l .before .before .before .before .before in
+    let p = w .before .before .before .before .before .args in
+    laid-done (p .servers .now) (inState 1 (p .servers .now) (p .states .now)) (l .loop .plan) (l .loop .i) (l .loop .inv .0 .small) (omega arith) (l .loop .inv .1 .1)
 
 pub plan-spec : {M : Type 1} → statement M
 plan-spec =
@@ -75,8 +101,14 @@ plan-spec =
     μ-loop
     blank-plan-requires
     returns
+    working-requires
+    array-share-prefix-at-work
+    slice-aggregate-arrange
     arrange-requires
+    arrange-requires-2
     loop-holds
+    array-share-prefix-keys
+    slice-aggregate-entry-for
     mul-entry-for
     array-read-entry-for
     entry-for-requires

@@ -1,29 +1,53 @@
--- `table::find` meets its contract. In the loop, looking from the present place on gives the whole answer.
+-- `table::find` meets its contract. In the loop, looking from the present place on gives the whole answer, whichever key has these two words.
 use Prim.Native.Nat.{ℕ, _*_, _+_, _≤_, _-_}
 use mathlib.Core.Bool.{true, false}
+use mathlib.Core.List.{List}
 use mathlib.Core.Path.{_≡_, refl, sym, _∙_}
 use native.Mathlib.Omega.{arith}
-use lib.ListN.{take, drop}
+use lib.ListN.{length, take, drop}
 use borrow.Author.Tests.{not-true, not-false}
 use borrow.Author.Needs.{needs}
 use Rattle.spans.specs.Spans.{same}
 use Rattle.table.specs.Table.{usedAmong, usedPart, find, findAmong, recordsOf}
+use Rattle.table.proofs.Keys.{Spelt, spelt-same}
 use Rattle.table.proofs.Places.{find-stop, find-here, find-more, find-end}
 use Rattle.table.proofs.find.Statement.{statement}
 use Rattle.table.proofs.find.Tie as tie
 
-key-long : (a : ℕ) → a + 13 - a ≡ 13
-key-long a = omega arith
-
 abbrev Inv-loop : tie.InvT-loop
-Inv-loop table key room i₀ i = (i ≤ room) × (findAmong key i (usedAmong (drop i (recordsOf table))) ≡ find key table)
+Inv-loop table front back room i₀ i =
+    (i ≤ room) × ((key : List ℕ) → Spelt key front back → findAmong key i (usedAmong (drop i (recordsOf table))) ≡ find key table)
 
 abbrev μ-loop : tie.MeasureT-loop
-μ-loop table key room i₀ i = room - i
+μ-loop table front back room i₀ i = room - i
+
+-- the numbers formed before the loop are the key's words
+spelt : (w : tie.After-word-at2 Inv-loop μ-loop)
+    → Spelt (w .before .before .before .before .before .args .t2) (w .before .before .word-at .result) (w .word-at2 .result)
+spelt w =
+    record {
+      whole = omega arith;
+      front-word = w .before .before .word-at .ensures .0;
+      back-word = w .word-at2 .ensures .0;
+      front-bytes = w .before .before .word-at .ensures .1;
+      back-bytes = w .word-at2 .ensures .1;
+    }
+
+slice-aggregate-word-at : tie.Need-slice-aggregate-word-at Inv-loop μ-loop
+slice-aggregate-word-at c = search needs
+
+word-at-requires : tie.Need-word-at-requires Inv-loop μ-loop
+word-at-requires c κs = search needs
+
+slice-aggregate-word-at-2 : tie.Need-slice-aggregate-word-at-2 Inv-loop μ-loop
+slice-aggregate-word-at-2 c = search needs
+
+word-at-requires-2 : tie.Need-word-at-requires-2 Inv-loop μ-loop
+word-at-requires-2 c κs = search needs
 
 loop-holds : tie.Need-loop-holds Inv-loop μ-loop
 unfolding find usedPart
-loop-holds c = (search needs, refl)
+loop-holds c = (search needs, λ key k. refl)
 
 mul-at : tie.Need-mul-at Inv-loop μ-loop
 mul-at c = search needs
@@ -40,40 +64,30 @@ used-tag-requires c κs = search needs
 returns : tie.Need-returns Inv-loop μ-loop
 returns c =
     let l = c .before .before .before .before in
-    let p = l .before .before .args in
+    let w = l .before in
+    let p = w .before .before .before .before .before .args in
+    let key = spelt w in
     let tag = sym (c .before .used-tag .ensures) ∙ not-true _ (c .if1 .taken) in
-    find-stop (p .table .now) (l .loop .i) (omega arith) (p .t2) _ (l .loop .inv .1) tag
+    find-stop (p .table .now) (l .loop .i) (omega arith) (p .t2) _ (l .loop .inv .1 (p .t2) key) tag
 
-add-same : tie.Need-add-same Inv-loop μ-loop
-add-same c = search needs
-
-sub-same : tie.Need-sub-same Inv-loop μ-loop
-sub-same c = search needs
-
-part-same-start : tie.Need-part-same-start Inv-loop μ-loop
-part-same-start c = search needs
-
-part-same-end : tie.Need-part-same-end Inv-loop μ-loop
-part-same-end c = search needs
-
-slice-aggregate-same : tie.Need-slice-aggregate-same Inv-loop μ-loop
-slice-aggregate-same c = search needs
-
-same-requires : tie.Need-same-requires Inv-loop μ-loop
-same-requires c κs = search needs
+has-words-requires : tie.Need-has-words-requires Inv-loop μ-loop
+has-words-requires c κs = search needs
 
 add-t20 : tie.Need-add-t20 Inv-loop μ-loop
 add-t20 c = search needs
 
 returns-2 : tie.Need-returns-2 Inv-loop μ-loop
 returns-2 c =
-    let u = c .before .before .before .before in
-    let l = u .before .before .before .before in
-    let p = l .before .before .args in
+    let l = c .before .before .before .before .before .before in
+    let w = l .before in
+    let p = w .before .before .before .before .before .args in
+    let key = spelt w in
+    let u = c .before .before in
+    let h = c .before .has-words .ensures in
     let tag = sym (u .before .used-tag .ensures) ∙ not-false _ (u .if1 .left) in
     let here : same (take 13 (drop (l .loop .i * 20) (p .table .now))) (p .t2) ≡ true =
-    rw (key-long (l .loop .i * 20)) at (sym (c .before .same .ensures) ∙ c .if2 .taken) in
-    find-here (p .table .now) (l .loop .i) (omega arith) (p .t2) _ (l .loop .inv .1) tag here
+    spelt-same (p .table .now) (p .t2) (l .loop .i * 20) _ _ _ key (omega arith) (h .1 .0) (h .1 .1) (h .0) ∙ c .if2 .taken in
+    find-here (p .table .now) (l .loop .i) (omega arith) (p .t2) _ (l .loop .inv .1 (p .t2) key) tag here
 
 add-i : tie.Need-add-i Inv-loop μ-loop
 add-i c = search needs
@@ -83,19 +97,26 @@ loop-less c = search needs
 
 loop-again : tie.Need-loop-again Inv-loop μ-loop
 loop-again c =
-    let u = c .before .before .before .before in
+    let u = c .before .before in
     let l = u .before .before .before .before in
-    let p = l .before .before .args in
-    let tag = sym (u .before .used-tag .ensures) ∙ not-false _ (u .if1 .left) in
-    let here : same (take 13 (drop (l .loop .i * 20) (p .table .now))) (p .t2) ≡ false =
-    rw (key-long (l .loop .i * 20)) at (sym (c .before .same .ensures) ∙ c .if2 .left) in
-    (search needs, find-more (p .table .now) (l .loop .i) (omega arith) (p .t2) _ (l .loop .inv .1) tag here)
+    let w = l .before in
+    let t = w .before .before .before .before .before .args .table .now in
+    let h = c .before .has-words .ensures in
+    let tag = sym (u .before .used-tag .ensures) ∙ not-false _ (u .if1 .left) in (
+      search needs,
+      λ key k.
+          let here : same (take 13 (drop (l .loop .i * 20) t)) key ≡ false =
+          spelt-same t key (l .loop .i * 20) _ _ _ k (omega arith) (h .1 .0) (h .1 .1) (h .0) ∙ c .if2 .left in
+          find-more t (l .loop .i) (omega arith) key _ (l .loop .inv .1 key k) tag here,
+    )
 
 returns-3 : tie.Need-returns-3 Inv-loop μ-loop
 returns-3 c =
     let l = c .before in
-    let p = l .before .before .args in
-    find-end (p .table .now) (l .loop .i) (omega arith) (p .t2) _ (l .loop .inv .1)
+    let w = l .before in
+    let p = w .before .before .before .before .before .args in
+    let key = spelt w in
+    find-end (p .table .now) (l .loop .i) (omega arith) (p .t2) _ (l .loop .inv .1 (p .t2) key)
 
 pub find-spec : {M : Type 1} → statement M
 find-spec =
@@ -103,18 +124,17 @@ find-spec =
     (tie.spec
     Inv-loop
     μ-loop
+    slice-aggregate-word-at
+    word-at-requires
+    slice-aggregate-word-at-2
+    word-at-requires-2
     loop-holds
     mul-at
     add-used-tag
     shared-slice-read-used-tag
     used-tag-requires
     returns
-    add-same
-    sub-same
-    part-same-start
-    part-same-end
-    slice-aggregate-same
-    same-requires
+    has-words-requires
     add-t20
     returns-2
     add-i
