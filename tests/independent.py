@@ -1,8 +1,9 @@
 #!/usr/bin/env python3
-"""What the programs `limits` and `methods` must print, worked out from the sentences of document 01.
+"""What the programs `limits`, `methods` and `vectors` must print, worked out from the sentences of document 01.
 
     python3 tests/independent.py limits  | cmp - crates/limits/stdout
     python3 tests/independent.py methods | cmp - crates/methods/stdout
+    python3 tests/independent.py vectors | cmp - crates/vectors/stdout
 
 It reads the cases, crates/NAME/stdin, and nothing else: every rule below stands under the sentence
 that it was written from. Nothing here runs or reads the Rattle code.
@@ -469,6 +470,10 @@ def method_step(rows, working, horizon, op, n):
         return F(key), digest(key)
     elif op == "over":
         return int(hrw_outranks(n[0], n[1], 0)), int(ring_outranks(n[0], n[1], 0))
+    elif op == "scales":
+        return (weight(n[0], n[1]),)
+    elif op == "gap":
+        return (distance(n[0], n[1]),)
     elif op == "entries":
         return [x for e in plan(working, horizon) for x in e]
     elif op == "key":
@@ -490,6 +495,15 @@ def methods():
         line(", ".join(shown))
 
 
+# --------------------------------------------------------------------------------------- vectors
+
+def vectors():
+    """The FNV authors' strings: in quotation marks, with \\0 for a zero byte and \\n for a line end."""
+    for text in sections("vectors")[0]:
+        data = text[1:-1].encode().replace(b"\\0", b"\0").replace(b"\\n", b"\n")
+        line(f"{text} {F(data):08x}")
+
+
 def figures():
     """Document 01, "Worked figures", of these functions: P1 to P13, and two of the FNV authors' vectors."""
     assert [weight(s, 0) for s in (1, 2, 3, 4)] == [377401575, 1495354192, 465823161, 1583775778]
@@ -503,5 +517,5 @@ def figures():
 
 if __name__ == "__main__":
     figures()
-    {"limits": limits, "methods": methods}[sys.argv[1]]()
+    {"limits": limits, "methods": methods, "vectors": vectors}[sys.argv[1]]()
     sys.stdout.write("".join(text + "\n" for text in LINES))

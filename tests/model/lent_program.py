@@ -1,12 +1,10 @@
-"""The `lent` program on the model: buffers and rosters that someone else wrote, one line for each case.
+"""Cases for the program `replay`: buffers and rosters that someone else wrote, one event or one start on each.
 
-    python3 lent_program.py > lines
-
-A line: the case's name, a colon, refusal, server, mark, reads, the used records afterwards, and the digests of
-table, rows, flags, ring and roster (layout: session.py), `-` for a ring of 63. Every case begins afresh from `Case`.
+A case gives two lines (`replay.py` writes them). What the program has to print: the case's name, a colon, refusal, server,
+mark, reads, the used records afterwards, and the digests of table, rows, flags, ring and roster (layout: session.py), `-`
+for a ring of 63. And its text, which the program reads: the name, a colon, and the steps that write what differs from
+a blank case. Every case begins afresh from `Case`.
 """
-import sys
-
 import model
 import session
 from lent import record, roster
@@ -29,7 +27,7 @@ class Case:
         self.rows, self.flags = [9] * rows, bytearray(flags)
         if row:
             self.rows[row[0]], self.flags[row[0]] = row[1:]
-        self.ring = (list(entries) + [Entry(2**32 - 1, 9, 0)] * 64)[:ring]
+        self.ring = (list(entries) + [LAST] * 64)[:ring]
         self.roster = roster(ONE if states is None else states, method, row_count)
         if change:
             change(self.roster)
@@ -41,12 +39,50 @@ class Case:
         return session.Session.images(self)
 
 
+LAST = Entry(2**32 - 1, 9, 0)
+EVENT, SHORT_RING, START = 0, 1, 2
+
+
+def written(word, values, blank):
+    """Steps for the values that aren't blank: a word, an index, the values from there on."""
+    steps, at = [], 0
+    while at < len(values):
+        end = at
+        while end < len(values) and values[end] != blank:
+            end += 1
+        if end > at:
+            steps.append("%s %d %s" % (word, at, " ".join(str(v) for v in values[at:end])))
+        at = end + 1
+    return steps
+
+
+def text(name, case, what):
+    """"table" goes on to its last byte that isn't zero; "ring" has three numbers for each entry; "under" is the method and the row
+    count; "lent" is the length of table, rows and flags, and what is done: 0 the event, 1 the event with a ring of 63, 2 a start."""
+    event, table = list(case.event), list(case.table.rstrip(b"\0"))
+    lent = [len(case.table), len(case.rows), len(case.flags), what]
+    steps = ["event 0 " + " ".join(str(b) for b in event)] if event else []
+    steps += ["table 0 " + " ".join(str(b) for b in table)] if table else []
+    steps += written("choices", case.rows, 9) + written("flags", case.flags, 0)
+    ring = [e for e in case.ring if e != LAST]
+    assert case.ring[:len(ring)] == ring
+    steps += ["ring 0 " + " ".join(str(n) for e in ring for n in e)] if ring else []
+    r = case.roster
+    steps += written("movers", r.servers, 0) + written("states", r.states, 0)
+    steps += ["held 0 %d" % r.count] if r.count else []
+    steps += ["under %d %d" % (r.method, r.row_count)] if (r.method, r.row_count) != (1, 0) else []
+    steps += ["lent 1 " + " ".join(str(n) for n in lent)] if lent != [80, 4096, 4096, EVENT] else []
+    return name + ": " + ", ".join(steps) + ","
+
+
 def line(name, case, start=False):
+    """The case's text, and what has to be printed for it."""
+    read = text(name, case, START if start else EVENT if len(case.ring) == 64 else SHORT_RING)
     reply = model.start(*case.buffers()) if start else model.event(*case.buffers(), case.event)
     digests = ["%016x" % session.fnv64(image) for image in case.images()]
     if len(case.ring) != 64:
         digests[3] = "-"
-    return "%s: %d %d %d %d %d %s" % (name, *reply, model.used_records(case.table), " ".join(digests))
+    return read, "%s: %d %d %d %d %d %s" % (name, *reply, model.used_records(case.table), " ".join(digests))
 
 
 def lengths():
@@ -171,10 +207,3 @@ def changes():
 def lines():
     for group in (lengths, starts, rosters, not_working, rows_and_rings, tables, changes):
         yield from group()
-
-
-if __name__ == "__main__":
-    if len(sys.argv) != 1:
-        sys.exit("usage: lent_program.py > lines")
-    for found in lines():
-        print(found)

@@ -1,15 +1,19 @@
-"""The replay program on the model: each line of the session, then the digests of table, rows, flags, ring and roster.
+"""The program `replay` on the model: what it reads, and what it has to print.
 
-    python3 replay.py --events > events          the stream that the program is held to
-    python3 replay.py < events > lines           what it has to print
+    python3 replay.py text > ../../crates/replay/stdin            its own stream, then the cases of lent_program.py
+    python3 replay.py lines > ../../crates/replay/stdout
+    python3 replay.py text EVENTS; python3 replay.py lines EVENTS     the same for a file of event records
 
-The digests are those of `session.py --dump`. The stream has all three methods, every kind, every refusal
+A stream's text: "start=", which starts on a table of 3,276 records where all is zeros, then a line for each event: its number
+and its byte 0, an equals sign, and its bytes. What has to be printed: the session's lines, each with the digests of
+`session.py --dump`. The stream has all three methods, every kind, every refusal
 that a session can show, ties of weight and of position, the last working server removed and another
 added, a server removed and returned, 64 servers, and a short last record.
 """
 import io
 import sys
 
+import lent_program
 import model
 import session
 from streams import (HALF, TRIPLETS, TWINS, Numbers, Script, connection, key_at, with_byte, with_server,
@@ -115,21 +119,35 @@ def stream():
     return b"".join(s.events)
 
 
+def start_line():
+    return "start 0 0 0 0 0 " + session.Session().digest_line()
+
+
 def lines(data):
     """The session's lines joined with its digests."""
     dump = io.StringIO()
     found = list(session.lines(data, dump))
-    return [line + " " + digests for line, digests in zip(found, dump.getvalue().splitlines())]
+    return [start_line()] + [line + " " + digests for line, digests in zip(found, dump.getvalue().splitlines())]
+
+
+def texts(data):
+    """The steps: the lengths lent with 2 for a start, then the bytes of each event."""
+    return ["start= lent 1 65520 4096 4096 2,"] + [
+        "%d %d= event 0 %s," % (number, record[0], " ".join(str(b) for b in record))
+        for number, record in enumerate(session.split(data), 1)]
 
 
 def main(arguments):
-    if arguments == ["--events"]:
-        sys.stdout.buffer.write(stream())
-    elif arguments:
-        sys.exit("usage: replay.py --events > events; replay.py < events > lines")
+    if not arguments or arguments[0] not in ("text", "lines") or len(arguments) > 2:
+        sys.exit("usage: replay.py text [EVENTS]; replay.py lines [EVENTS]")
+    which = ("text", "lines").index(arguments[0])
+    if len(arguments) == 2:
+        with open(arguments[1], "rb") as f:
+            data, cases = f.read(), []
     else:
-        for line in lines(sys.stdin.buffer.read()):
-            sys.stdout.write(line + "\n")
+        data, cases = stream(), [case[which] for case in lent_program.lines()]
+    for line in (texts, lines)[which](data) + cases:
+        sys.stdout.write(line + "\n")
 
 
 if __name__ == "__main__":

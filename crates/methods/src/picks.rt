@@ -30,13 +30,16 @@ fn over(a: u32, b: u32) {
     say::number(ranking::nearer(x, a, y, b) as u64);
 }
 
-// What a step shows of HRW: a pick, the best, a digest, or which of two is over the other.
+// What a step shows of HRW and of the hashes: a pick, the best, a digest, which of two is over the other, the weight of a server on the
+// scales at a digest, or the gap from a point to a position.
 pub(crate) fn show(servers: &[u32], states: &[u8], op: u8, a: u32, b: u32) {
     match op {
         b'p' => pick(servers, states, b),
         b'b' => best(servers, states, b),
         b'd' => key((b % 256) as u8),
         b'o' => over(a, b),
+        b's' => say::number(hash::weight(a, b) as u64),
+        b'g' => say::number(hash::distance(a, b) as u64),
         _ => (),
     }
 }

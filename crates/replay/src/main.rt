@@ -1,104 +1,75 @@
-// Reads event records on standard input, with a table of 3,276 records, and prints for each the session's line followed by the digests of
-// table, rows, flags, ring and roster.
-use libc::STDIN_FILENO;
-use ring::Entry;
-use roster::Roster;
-use rules::Reply;
+// Does events on lent buffers and rosters, whoever wrote them. The file stdin has a line for each event: a name; then a colon, where all
+// that is lent starts afresh, or an equals sign, where it is as the line before left it (before the first line it is all zeros); then
+// steps, each with a comma behind it, which write what is lent. Printed are the name and the colon, then refusal, server, mark, reads, the
+// used records afterwards, and the digests of table, rows, flags, ring and roster. What must be printed stands in the file stdout, and
+// comes from the independent model of tests/model.
+ghost use mathlib.Core.Path.{_≡_};
+ghost use lib.ListN.{length};
 
-// What a turn leaves: whether there may be more events, and the ring and the roster for the next.
-struct Next {
-    more: bool,
-    ring: [Entry; 64],
-    roster: Roster,
-}
+mod digests;
+mod given;
+mod lend;
+mod script;
 
-// The session's line: event number, byte 0, the reply, used records.
-fn line(number: u64, kind: u8, reply: Reply, used: usize) {
-    show::number(number);
-    show::next(kind as u64);
-    show::reply(reply);
-    show::next(used as u64);
-}
+use given::Given;
+use script::Step;
 
-// The digests, and the line's end.
-fn digests(table: &[u8], rows: &[u32], flags: &[u8], ring: [Entry; 64], roster: Roster) {
-    show::buffers(table, rows, flags);
-    show::ring(ring);
-    show::roster(roster);
-    show::text(b"\n");
-}
-
-// One record: read, done and shown.
-fn turn(
-    number: u64,
-    table: &mut [u8],
-    rows: &mut [u32],
-    flags: &mut [u8],
-    ring: [Entry; 64],
-    roster: Roster,
-) -> Next {
-    let mut event = [0u8; 16];
-    let n = io::read_full(STDIN_FILENO, &mut event);
-    if n == 0 {
-        return Next {
-            more: false,
-            ring: ring,
-            roster: roster,
-        };
-    }
-    let tried = byvalue::event(&event[..n], table, rows, flags, ring, roster);
-    let outcome = tried.outcome;
-    let drawn = tried.ring;
-    let reply = outcome.reply;
-    let after = outcome.roster;
-    line(number, event[0], reply, table::used(table));
-    digests(table, rows, flags, drawn, after);
-    Next {
-        more: n == 16,
-        ring: drawn,
-        roster: after,
-    }
-}
-
-// Turns until the input ends.
-fn run(
-    table: &mut [u8],
-    rows: &mut [u32],
-    flags: &mut [u8],
-    start_ring: [Entry; 64],
-    start_roster: Roster,
-) {
-    let mut ring = start_ring;
-    let mut roster = start_roster;
-    let mut number: u64 = 0;
-    while number < 1000000000000 {
-        number += 1;
-        let next = turn(number, table, rows, flags, ring, roster);
-        if !next.more {
-            break;
+// What a character does: a colon starts afresh, with zeros in table and flags, 9 in the rows and entries that name 9; a comma or a space
+// behind a number writes it; a line's end does the event.
+fn turn(table: &mut [u8], rows: &mut [u32], flags: &mut [u8], g: Given, s: Step, c: u8) -> Given {
+    let op = script::done(s, c);
+    match op {
+        0 => g,
+        10 => lend::act(table, rows, flags, g),
+        b':' => {
+            spans::clear(table);
+            spans::clear(flags);
+            lend::nines(rows);
+            given::blank(given::naming(4294967295, 9))
         }
-        ring = next.ring;
-        roster = next.roster;
+        b't' => {
+            lend::put(table, s.at, s.value);
+            g
+        }
+        b'f' => {
+            lend::put(flags, s.at, s.value);
+            g
+        }
+        b'c' => {
+            lend::choose(rows, s.at, s.value);
+            g
+        }
+        _ => given::changed(g, op, s.at, s.value),
     }
 }
 
-// A ring of zeros.
-fn blank() -> [Entry; 64] {
-    let e = Entry {
-        position: 0,
-        server: 0,
-        track: 0,
-    };
-    [e; 64]
+// Every character.
+fn run(text: &[u8], table: &mut [u8], rows: &mut [u32], flags: &mut [u8]) {
+    let mut g = given::blank(given::naming(0, 0));
+    let mut s = script::line();
+    let mut i = 0;
+    while i < text.len() {
+        let c = text[i];
+        i += 1;
+        script::name(s, c);
+        g = turn(table, rows, flags, g, s, c);
+        s = script::read(s, c);
+    }
 }
 
-// All buffers hold zeros before the start.
+// Room for a million characters.
+fn room() -> [u8; 1048576]
+    ensures { λ r. ⌜ 1048576 ≡ length r ⌝ }
+{
+    [0u8; 1048576]
+}
+
+// The lines from standard input, on buffers as long as any of them needs.
 fn main() {
-    let mut table = [0u8; 65520];
-    let mut rows = [0u32; 4096];
-    let mut flags = [0u8; 4096];
-    let ring = blank();
-    let started = byvalue::start(&mut table, &rows, &flags, ring, roster::empty());
-    let roster = started.roster;
-    run(&mut table, &mut rows, &mut flags, ring, roster);
+    let mut text = room();
+    let mut table = [0u8; 65540];
+    let mut rows = [0u32; 4097];
+    let mut flags = [0u8; 4097];
+    let n = io::read_full(libc::STDIN_FILENO, &mut text);
+    run(&text[..n], &mut table, &mut rows, &mut flags);
 }

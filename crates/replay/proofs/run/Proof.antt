@@ -1,4 +1,4 @@
--- `replay::run` meets its contract. The loop keeps the lengths of the lent buffers.
+-- `replay::run` meets its contract.
 use Prim.Native.Nat.{_≤_, _-_}
 use mathlib.Core.Path.{_≡_}
 use lib.ListN.{length}
@@ -7,19 +7,37 @@ use Rattle.replay.proofs.run.Statement.{statement}
 use Rattle.replay.proofs.run.Tie as tie
 
 abbrev Inv-loop : tie.InvT-loop
-Inv-loop table₀ rows₀ flags₀ ring₀ roster₀ number₀ table rows flags ring roster number = (number ≤ 1000000000000) × ((length table ≡ length table₀) × ((length rows ≡ length rows₀) × (length flags ≡ length flags₀)))
+Inv-loop text table₀ rows₀ flags₀ g₀ s₀ i₀ table rows flags g s i = (i ≤ length text) × ((length table ≡ length table₀) × ((length rows ≡ length rows₀) × (length flags ≡ length flags₀)))
 
 abbrev μ-loop : tie.MeasureT-loop
-μ-loop table₀ rows₀ flags₀ ring₀ roster₀ number₀ table rows flags ring roster number = 1000000000000 - number
+μ-loop text table₀ rows₀ flags₀ g₀ s₀ i₀ table rows flags g s i = length text - i
+
+naming-requires : tie.Need-naming-requires Inv-loop μ-loop
+naming-requires c κs = search needs
+
+blank-requires : tie.Need-blank-requires Inv-loop μ-loop
+blank-requires c κs = search needs
+
+line-requires : tie.Need-line-requires Inv-loop μ-loop
+line-requires c κs = search needs
 
 loop-holds : tie.Need-loop-holds Inv-loop μ-loop
 loop-holds c = search needs
 
-add-number : tie.Need-add-number Inv-loop μ-loop
-add-number c = search needs
+shared-slice-read-c : tie.Need-shared-slice-read-c Inv-loop μ-loop
+shared-slice-read-c c = search needs
+
+add-i : tie.Need-add-i Inv-loop μ-loop
+add-i c = search needs
+
+name-requires : tie.Need-name-requires Inv-loop μ-loop
+name-requires c κs = search needs
 
 turn-requires : tie.Need-turn-requires Inv-loop μ-loop
 turn-requires c κs = search needs
+
+read-requires : tie.Need-read-requires Inv-loop μ-loop
+read-requires c κs = search needs
 
 loop-less : tie.Need-loop-less Inv-loop μ-loop
 loop-less c = search needs
@@ -39,34 +57,24 @@ same-length-3 c = search needs
 returns : tie.Need-returns Inv-loop μ-loop
 returns c = search needs
 
-same-length-4 : tie.Need-same-length-4 Inv-loop μ-loop
-same-length-4 c = search needs
-
-same-length-5 : tie.Need-same-length-5 Inv-loop μ-loop
-same-length-5 c = search needs
-
-same-length-6 : tie.Need-same-length-6 Inv-loop μ-loop
-same-length-6 c = search needs
-
-returns-2 : tie.Need-returns-2 Inv-loop μ-loop
-returns-2 c = search needs
-
 pub run-spec : {M : Type 1} → statement M
 run-spec =
     tie.close
     (tie.spec
     Inv-loop
     μ-loop
+    naming-requires
+    blank-requires
+    line-requires
     loop-holds
-    add-number
+    shared-slice-read-c
+    add-i
+    name-requires
     turn-requires
+    read-requires
     loop-less
     loop-again
     same-length
     same-length-2
     same-length-3
-    returns
-    same-length-4
-    same-length-5
-    same-length-6
-    returns-2)
+    returns)

@@ -1,32 +1,27 @@
--- `show::over_ring` meets its contract.
+-- `replay::digests::over_numbers` meets its contract.
 use Prim.Native.Nat.{_≤_, _-_}
+use lib.ListN.{length}
 use borrow.Author.Needs.{needs}
-use Rattle.show.proofs.over_ring.Statement.{statement}
-use Rattle.show.proofs.over_ring.Tie as tie
+use Rattle.replay.proofs.digests.over_numbers.Statement.{statement}
+use Rattle.replay.proofs.digests.over_numbers.Tie as tie
 
 abbrev Inv-loop : tie.InvT-loop
-Inv-loop start ring h₀ i₀ h i = i ≤ 64
+Inv-loop start numbers h₀ i₀ h i = i ≤ length numbers
 
 abbrev μ-loop : tie.MeasureT-loop
-μ-loop start ring h₀ i₀ h i = 64 - i
+μ-loop start numbers h₀ i₀ h i = length numbers - i
 
 loop-holds : tie.Need-loop-holds Inv-loop μ-loop
 loop-holds c = search needs
 
-mul-e : tie.Need-mul-e Inv-loop μ-loop
-mul-e c = search needs
+mul-step4 : tie.Need-mul-step4 Inv-loop μ-loop
+mul-step4 c = search needs
 
-array-copy-out-e : tie.Need-array-copy-out-e Inv-loop μ-loop
-array-copy-out-e c = search needs
+shared-slice-read-step4 : tie.Need-shared-slice-read-step4 Inv-loop μ-loop
+shared-slice-read-step4 c = search needs
 
 step4-requires : tie.Need-step4-requires Inv-loop μ-loop
 step4-requires c κs = search needs
-
-step4-requires-2 : tie.Need-step4-requires-2 Inv-loop μ-loop
-step4-requires-2 c κs = search needs
-
-step-requires : tie.Need-step-requires Inv-loop μ-loop
-step-requires c κs = search needs
 
 add-i : tie.Need-add-i Inv-loop μ-loop
 add-i c = search needs
@@ -40,18 +35,16 @@ loop-again c = search needs
 returns : tie.Need-returns Inv-loop μ-loop
 returns c = search needs
 
-pub over-ring-spec : {M : Type 1} → statement M
-over-ring-spec =
+pub over-numbers-spec : {M : Type 1} → statement M
+over-numbers-spec =
     tie.close
     (tie.spec
     Inv-loop
     μ-loop
     loop-holds
-    mul-e
-    array-copy-out-e
+    mul-step4
+    shared-slice-read-step4
     step4-requires
-    step4-requires-2
-    step-requires
     add-i
     loop-less
     loop-again

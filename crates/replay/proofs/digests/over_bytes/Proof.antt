@@ -1,9 +1,9 @@
--- `show::over_bytes` meets its contract.
+-- `replay::digests::over_bytes` meets its contract.
 use Prim.Native.Nat.{_≤_, _-_}
 use lib.ListN.{length}
 use borrow.Author.Needs.{needs}
-use Rattle.show.proofs.over_bytes.Statement.{statement}
-use Rattle.show.proofs.over_bytes.Tie as tie
+use Rattle.replay.proofs.digests.over_bytes.Statement.{statement}
+use Rattle.replay.proofs.digests.over_bytes.Tie as tie
 
 abbrev Inv-loop : tie.InvT-loop
 Inv-loop start bytes h₀ i₀ h i = i ≤ length bytes

@@ -1,5 +1,6 @@
-// Prints replies and the digests of buffers, for the programs that are held to the model of tests/model. A digest is FNV-1a 64 over the
-// bytes that the model lays out (tests/model/session.py), numbers big-endian.
+// The rest of a line: the reply, and the digests of what was lent. A digest is FNV-1a 64 over the bytes that the model lays out
+// (tests/model/session.py), numbers big-endian.
+use byvalue::Tried;
 use libc::STDOUT_FILENO;
 use ring::Entry;
 use roster::Roster;
@@ -20,7 +21,7 @@ fn step(h: u64, byte: u8) -> u64 {
 // The four bytes of a number into a running digest.
 fn step4(h: u64, n: u32) -> u64 {
     let b = bigendian::split4(n);
-    step(step(step(step(h, b[0]), b[1]), b[2]), b[3])
+    over_bytes(h, &b)
 }
 
 // Bytes into a running digest.
@@ -79,24 +80,14 @@ fn digest(h: u64) {
     io::print_hex(STDOUT_FILENO, h, 16);
 }
 
-// Prints a number.
-pub fn number(n: u64) {
-    io::print_decimal(STDOUT_FILENO, n);
-}
-
 // Prints a space and a number.
-pub fn next(n: u64) {
+fn next(n: u64) {
     io::write_all(STDOUT_FILENO, b" ");
     io::print_decimal(STDOUT_FILENO, n);
 }
 
-// Prints bytes as they are.
-pub fn text(bytes: &[u8]) {
-    io::write_all(STDOUT_FILENO, bytes);
-}
-
 // Prints a space before each of: refusal (0 if accepted), server, mark, reads.
-pub fn reply(reply: Reply) {
+fn reply(reply: Reply) {
     match reply {
         Reply::Accepted {
             server,
@@ -115,19 +106,27 @@ fn facts(refusal: u8, server: u32, mark: u8, reads: usize) {
     next(reads as u64);
 }
 
-// Prints the digests of a table, rows and flags.
-pub fn buffers(table: &[u8], rows: &[u32], flags: &[u8]) {
+// Prints the digests of ring and roster; a ring of 63 entries has none.
+fn rest(what: u32, ring: [Entry; 64], roster: Roster) {
+    if what == 1 {
+        io::write_all(STDOUT_FILENO, b" -");
+    } else {
+        digest(over_ring(NOTHING, ring));
+    }
+    digest(over_roster(NOTHING, roster));
+    io::write_all(STDOUT_FILENO, b"\n");
+}
+
+// Prints what an event left.
+pub(crate) fn line(what: u32, tried: Tried, table: &[u8], rows: &[u32], flags: &[u8]) {
+    let outcome = tried.outcome;
+    let ring = tried.ring;
+    let told = outcome.reply;
+    let roster = outcome.roster;
+    reply(told);
+    next(table::used(table) as u64);
     digest(over_bytes(NOTHING, table));
     digest(over_numbers(NOTHING, rows));
     digest(over_bytes(NOTHING, flags));
-}
-
-// Prints the digest of a ring.
-pub fn ring(ring: [Entry; 64]) {
-    digest(over_ring(NOTHING, ring));
-}
-
-// Prints the digest of a roster.
-pub fn roster(roster: Roster) {
-    digest(over_roster(NOTHING, roster));
+    rest(what, ring, roster);
 }
