@@ -1,0 +1,245 @@
+// The work: which event comes next, and what becomes of it when the reply is heard.
+use crate::keys;
+use libc::STDOUT_FILENO;
+use rules::Reply;
+
+// What the program's words ask for.
+pub struct Plan {
+    pub method: u64,
+    pub servers: u64,
+    pub horizon: u64,
+    pub records: u64,
+    pub packets: u64,
+    pub changes: u64,
+}
+
+// What kind of event comes next.
+pub enum Phase {
+    Configuring,
+    Adding,
+    Starting,
+    Filling,
+    Sending,
+    Joining,
+    Leaving,
+}
+
+// What the replies came to: their checksum, how many recorded a session, how many were refusals.
+pub struct Tally {
+    pub sum: u64,
+    pub used: u64,
+    pub refused: u64,
+}
+
+// How far the work is: events done in this phase, the generator's number, keys sent while filling.
+pub struct Work {
+    pub plan: Plan,
+    pub phase: Phase,
+    pub done: u64,
+    pub x: u64,
+    pub keys: u64,
+    pub tally: Tally,
+    pub more: bool,
+}
+
+// Before the first event.
+pub(crate) fn begun(plan: Plan) -> Work {
+    Work {
+        plan: plan,
+        phase: Phase::Configuring,
+        done: 0,
+        x: 1,
+        keys: 0,
+        tally: Tally {
+            sum: 0,
+            used: 0,
+            refused: 0,
+        },
+        more: true,
+    }
+}
+
+// Writes the next event record into the lent bytes.
+pub(crate) fn ask(record: &mut [u8], w: Work) {
+    put(record, event(w));
+}
+
+// Writes a record where there is room for it.
+fn put(record: &mut [u8], bytes: [u8; 16]) {
+    if record.len() < 16 {
+        return;
+    }
+    let mut i = 0;
+    while i < 16 {
+        record[i] = bytes[i];
+        i += 1;
+    }
+}
+
+// The next event record.
+fn event(w: Work) -> [u8; 16] {
+    let phase = w.phase;
+    match phase {
+        Phase::Configuring => keys::configure(w.plan.method),
+        Phase::Adding => keys::change(5, w.done),
+        Phase::Starting => keys::change(3, w.done),
+        Phase::Filling => keys::packet(w.keys),
+        Phase::Sending => keys::packet(keys::below(w.x, w.keys)),
+        Phase::Joining => keys::change(3, working(w.plan)),
+        Phase::Leaving => keys::change(4, working(w.plan)),
+    }
+}
+
+// How many servers are put to work; the one behind them is the first of the horizon.
+fn working(p: Plan) -> u64 {
+    if p.horizon > p.servers {
+        return 0;
+    }
+    p.servers - p.horizon
+}
+
+// The work behind a reply.
+pub(crate) fn hear(w: Work, reply: Reply) -> Work {
+    match reply {
+        Reply::Accepted {
+            server,
+            mark,
+            reads,
+        } => counted(w, 0, server, mark, reads),
+        Reply::Refused(number) => counted(w, number, 0, 0, 0),
+    }
+}
+
+// The reply's four numbers in the tally, and the next event.
+fn counted(w: Work, refusal: u8, server: u32, mark: u8, reads: usize) -> Work {
+    let sum = keys::with_reply(w.tally.sum, refusal, server, mark, reads);
+    let used = more_if(mark == 3, w.tally.used);
+    let refused = more_if(refusal > 0, w.tally.refused);
+    let mut v = w;
+    v.tally.sum = sum;
+    v.tally.used = used;
+    v.tally.refused = refused;
+    v.done = more_if(true, w.done);
+    advanced(v)
+}
+
+// A count, one more where that is so.
+fn more_if(so: bool, n: u64) -> u64 {
+    if so {
+        if n < 1000000000000 {
+            return n + 1;
+        }
+    }
+    n
+}
+
+// The next event, or the next phase where this one has no more.
+fn advanced(w: Work) -> Work {
+    let phase = w.phase;
+    match phase {
+        Phase::Configuring => with(w, Phase::Adding, 0),
+        Phase::Adding => added(w),
+        Phase::Starting => started(w),
+        Phase::Filling => filling(keyed(w)),
+        Phase::Sending => sending(drawn(w)),
+        Phase::Joining => with(w, Phase::Leaving, less(w.done)),
+        Phase::Leaving => changing(w),
+    }
+}
+
+// The work in a phase, with so many events of it done.
+fn with(w: Work, phase: Phase, done: u64) -> Work {
+    let plan = w.plan;
+    let tally = w.tally;
+    Work {
+        plan: plan,
+        phase: phase,
+        done: done,
+        x: w.x,
+        keys: w.keys,
+        tally: tally,
+        more: w.more,
+    }
+}
+
+// One less: a change is done when its server has left.
+fn less(n: u64) -> u64 {
+    if n == 0 {
+        return 0;
+    }
+    n - 1
+}
+
+// One key more was sent.
+fn keyed(w: Work) -> Work {
+    let mut v = w;
+    v.keys = more_if(true, w.keys);
+    v
+}
+
+// The generator goes on.
+fn drawn(w: Work) -> Work {
+    let mut v = w;
+    v.x = keys::next(w.x);
+    v
+}
+
+// Servers are added until all are held.
+fn added(w: Work) -> Work {
+    if w.done < w.plan.servers {
+        return w;
+    }
+    with(w, Phase::Starting, 0)
+}
+
+// Servers are put to work until just the horizon is left.
+fn started(w: Work) -> Work {
+    if w.done < working(w.plan) {
+        return w;
+    }
+    filling(with(w, Phase::Filling, 0))
+}
+
+// New keys are sent until so many records are used, or 100,000 keys were sent.
+fn filling(w: Work) -> Work {
+    if w.tally.used < w.plan.records {
+        if w.keys < 100000 {
+            return w;
+        }
+    }
+    line(b"filled ", w);
+    sending(with(w, Phase::Sending, 0))
+}
+
+// Packets of those keys.
+fn sending(w: Work) -> Work {
+    if w.done < w.plan.packets {
+        return w;
+    }
+    line(b"packets ", w);
+    changing(with(w, Phase::Leaving, 0))
+}
+
+// The first server of the horizon goes to work and leaves it, so many times. Then nothing is left to do.
+fn changing(w: Work) -> Work {
+    if w.done < w.plan.changes {
+        return with(w, Phase::Joining, w.done);
+    }
+    line(b"changes ", w);
+    let mut v = w;
+    v.more = false;
+    v
+}
+
+// Prints a line: a part's name, the checksum so far, used records, keys sent, refusals.
+fn line(part: &[u8], w: Work) {
+    io::write_all(STDOUT_FILENO, part);
+    io::print_decimal(STDOUT_FILENO, w.tally.sum);
+    io::write_all(STDOUT_FILENO, b" ");
+    io::print_decimal(STDOUT_FILENO, w.tally.used);
+    io::write_all(STDOUT_FILENO, b" ");
+    io::print_decimal(STDOUT_FILENO, w.keys);
+    io::write_all(STDOUT_FILENO, b" ");
+    io::print_decimal(STDOUT_FILENO, w.tally.refused);
+    io::write_all(STDOUT_FILENO, b"\n");
+}
