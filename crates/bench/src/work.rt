@@ -98,29 +98,66 @@ fn working(p: Plan) -> u64 {
     p.servers - p.horizon
 }
 
-// The work behind a reply.
+// A reply's four numbers.
+struct Said {
+    refusal: u8,
+    server: u32,
+    mark: u8,
+    reads: usize,
+}
+
+// The work behind a reply: it is tallied, and the next event comes, or the next phase where this one has no more.
 pub(crate) fn hear(w: Work, reply: Reply) -> Work {
+    let v = tallied(w, parts(reply));
+    let phase = v.phase;
+    match phase {
+        Phase::Configuring => with(v, Phase::Adding, 0),
+        Phase::Adding => added(v),
+        Phase::Starting => started(v),
+        Phase::Filling => keyed(v),
+        Phase::Sending => drawn(v),
+        Phase::Joining => with(v, Phase::Leaving, less(v.done)),
+        Phase::Leaving => changing(v),
+    }
+}
+
+// A reply in numbers.
+fn parts(reply: Reply) -> Said {
     match reply {
         Reply::Accepted {
             server,
             mark,
             reads,
-        } => counted(w, 0, server, mark, reads),
-        Reply::Refused(number) => counted(w, number, 0, 0, 0),
+        } => {
+            Said {
+                refusal: 0,
+                server: server,
+                mark: mark,
+                reads: reads,
+            }
+        }
+        Reply::Refused(number) => {
+            Said {
+                refusal: number,
+                server: 0,
+                mark: 0,
+                reads: 0,
+            }
+        }
     }
 }
 
-// The reply's four numbers in the tally, and the next event.
-fn counted(w: Work, refusal: u8, server: u32, mark: u8, reads: usize) -> Work {
-    let sum = keys::with_reply(w.tally.sum, refusal, server, mark, reads);
-    let used = more_if(mark == 3, w.tally.used);
-    let refused = more_if(refusal > 0, w.tally.refused);
+// The work with a reply in its tally, and one event more done.
+fn tallied(w: Work, s: Said) -> Work {
+    let sum = keys::with_reply(w.tally.sum, s.refusal, s.server, s.mark, s.reads);
+    let used = more_if(s.mark == 3, w.tally.used);
+    let refused = more_if(s.refusal > 0, w.tally.refused);
     let mut v = w;
     v.tally.sum = sum;
     v.tally.used = used;
     v.tally.refused = refused;
     v.done = more_if(true, w.done);
-    advanced(v)
+    v
 }
 
 // A count, one more where that is so.
@@ -131,20 +168,6 @@ fn more_if(so: bool, n: u64) -> u64 {
         }
     }
     n
-}
-
-// The next event, or the next phase where this one has no more.
-fn advanced(w: Work) -> Work {
-    let phase = w.phase;
-    match phase {
-        Phase::Configuring => with(w, Phase::Adding, 0),
-        Phase::Adding => added(w),
-        Phase::Starting => started(w),
-        Phase::Filling => filling(keyed(w)),
-        Phase::Sending => sending(drawn(w)),
-        Phase::Joining => with(w, Phase::Leaving, less(w.done)),
-        Phase::Leaving => changing(w),
-    }
 }
 
 // The work in a phase, with so many events of it done.
@@ -174,14 +197,17 @@ fn less(n: u64) -> u64 {
 fn keyed(w: Work) -> Work {
     let mut v = w;
     v.keys = more_if(true, w.keys);
-    v
+    filling(v)
 }
 
-// The generator goes on.
+// The generator goes on, and packets are sent until all are.
 fn drawn(w: Work) -> Work {
     let mut v = w;
     v.x = keys::next(w.x);
-    v
+    if v.done < v.plan.packets {
+        return v;
+    }
+    sent(v)
 }
 
 // Servers are added until all are held.
@@ -200,7 +226,7 @@ fn started(w: Work) -> Work {
     filling(with(w, Phase::Filling, 0))
 }
 
-// New keys are sent until so many records are used, or 100,000 keys were sent.
+// New keys are sent until so many records are used, or 100,000 keys were sent. Then packets of those keys.
 fn filling(w: Work) -> Work {
     if w.tally.used < w.plan.records {
         if w.keys < 100000 {
@@ -208,14 +234,15 @@ fn filling(w: Work) -> Work {
         }
     }
     line(b"filled ", w);
-    sending(with(w, Phase::Sending, 0))
+    let v = with(w, Phase::Sending, 0);
+    if v.plan.packets > 0 {
+        return v;
+    }
+    sent(v)
 }
 
-// Packets of those keys.
-fn sending(w: Work) -> Work {
-    if w.done < w.plan.packets {
-        return w;
-    }
+// All packets are sent.
+fn sent(w: Work) -> Work {
     line(b"packets ", w);
     changing(with(w, Phase::Leaving, 0))
 }
