@@ -13,12 +13,6 @@ use ring::Entry;
 use roster::Roster;
 use work::Work;
 
-// Where the work is after a turn.
-struct Next {
-    work: Work,
-    roster: Roster,
-}
-
 // A ring of zeros.
 fn zeros() -> [Entry; 64] {
     let e = Entry {
@@ -29,26 +23,7 @@ fn zeros() -> [Entry; 64] {
     [e; 64]
 }
 
-// One event is written, done and heard.
-fn turn(
-    record: &mut [u8],
-    table: &mut [u8],
-    rows: &mut [u32],
-    flags: &mut [u8],
-    ring: &mut [Entry],
-    roster: Roster,
-    work: Work,
-) -> Next {
-    work::ask(record, work);
-    let out = balancer::event(record, table, rows, flags, ring, roster);
-    let heard = work::hear(work, out.reply);
-    Next {
-        work: heard,
-        roster: out.roster,
-    }
-}
-
-// A turn for each event.
+// Each event is written, done and heard.
 fn run(
     record: &mut [u8],
     table: &mut [u8],
@@ -63,9 +38,10 @@ fn run(
     let mut number: u64 = 0;
     while number < 1000000000000 {
         number += 1;
-        let next = turn(record, table, rows, flags, ring, roster, work);
-        roster = next.roster;
-        work = next.work;
+        work::ask(record, work);
+        let out = balancer::event(record, table, rows, flags, ring, roster);
+        roster = out.roster;
+        work = work::hear(work, out.reply);
         if !work.more {
             break;
         }
