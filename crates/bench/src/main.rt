@@ -11,6 +11,7 @@ mod work;
 use libc::STDERR_FILENO;
 use ring::Entry;
 use roster::Roster;
+use work::Plan;
 use work::Work;
 
 // A ring of zeros.
@@ -31,6 +32,7 @@ fn run(
     flags: &mut [u8],
     ring: &mut [Entry],
     start: Roster,
+    plan: Plan,
     begun: Work,
 ) {
     let mut roster = start;
@@ -38,10 +40,10 @@ fn run(
     let mut number: u64 = 0;
     while number < 1000000000000 {
         number += 1;
-        work::ask(record, work);
+        work::ask(record, plan, work);
         let out = balancer::event(record, table, rows, flags, ring, roster);
         roster = out.roster;
-        work = work::hear(work, out.reply);
+        work = work::hear(plan, work, out.reply);
         if !work.more {
             break;
         }
@@ -55,11 +57,21 @@ fn owner(
     rows: &mut [u32],
     flags: &mut [u8],
     roster: Roster,
+    plan: Plan,
     work: Work,
 ) {
     let mut ring = zeros();
     let out = balancer::start(table, rows, flags, &ring, roster);
-    run(record, table, rows, flags, &mut ring, out.roster, work);
+    run(
+        record,
+        table,
+        rows,
+        flags,
+        &mut ring,
+        out.roster,
+        plan,
+        work,
+    );
 }
 
 fn main() {
@@ -81,6 +93,7 @@ fn main() {
         &mut rows,
         &mut flags,
         roster::empty(),
-        work::begun(plan),
+        plan,
+        work::begun(),
     );
 }

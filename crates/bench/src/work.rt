@@ -33,7 +33,6 @@ pub struct Tally {
 
 // How far the work is: events done in this phase, the generator's number, keys sent while filling.
 pub struct Work {
-    pub plan: Plan,
     pub phase: Phase,
     pub done: u64,
     pub x: u64,
@@ -43,9 +42,8 @@ pub struct Work {
 }
 
 // Before the first event.
-pub(crate) fn begun(plan: Plan) -> Work {
+pub(crate) fn begun() -> Work {
     Work {
-        plan: plan,
         phase: Phase::Configuring,
         done: 0,
         x: 1,
@@ -60,8 +58,8 @@ pub(crate) fn begun(plan: Plan) -> Work {
 }
 
 // Writes the next event record into the lent bytes.
-pub(crate) fn ask(record: &mut [u8], w: Work) {
-    put(record, event(w));
+pub(crate) fn ask(record: &mut [u8], p: Plan, w: Work) {
+    put(record, event(p, w));
 }
 
 // Writes a record where there is room for it.
@@ -77,16 +75,16 @@ fn put(record: &mut [u8], bytes: [u8; 16]) {
 }
 
 // The next event record.
-fn event(w: Work) -> [u8; 16] {
+fn event(p: Plan, w: Work) -> [u8; 16] {
     let phase = w.phase;
     match phase {
-        Phase::Configuring => keys::configure(w.plan.method),
+        Phase::Configuring => keys::configure(p.method),
         Phase::Adding => keys::change(5, w.done),
         Phase::Starting => keys::change(3, w.done),
         Phase::Filling => keys::packet(w.keys),
         Phase::Sending => keys::packet(keys::below(w.x, w.keys)),
-        Phase::Joining => keys::change(3, working(w.plan)),
-        Phase::Leaving => keys::change(4, working(w.plan)),
+        Phase::Joining => keys::change(3, working(p)),
+        Phase::Leaving => keys::change(4, working(p)),
     }
 }
 
@@ -107,17 +105,17 @@ struct Said {
 }
 
 // The work behind a reply: it is tallied, and the next event comes, or the next phase where this one has no more.
-pub(crate) fn hear(w: Work, reply: Reply) -> Work {
+pub(crate) fn hear(p: Plan, w: Work, reply: Reply) -> Work {
     let v = tallied(w, parts(reply));
     let phase = v.phase;
     match phase {
         Phase::Configuring => with(v, Phase::Adding, 0),
-        Phase::Adding => added(v),
-        Phase::Starting => started(v),
-        Phase::Filling => keyed(v),
-        Phase::Sending => drawn(v),
+        Phase::Adding => added(p, v),
+        Phase::Starting => started(p, v),
+        Phase::Filling => keyed(p, v),
+        Phase::Sending => drawn(p, v),
         Phase::Joining => with(v, Phase::Leaving, less(v.done)),
-        Phase::Leaving => changing(v),
+        Phase::Leaving => changing(p, v),
     }
 }
 
@@ -172,10 +170,8 @@ fn more_if(so: bool, n: u64) -> u64 {
 
 // The work in a phase, with so many events of it done.
 fn with(w: Work, phase: Phase, done: u64) -> Work {
-    let plan = w.plan;
     let tally = w.tally;
     Work {
-        plan: plan,
         phase: phase,
         done: done,
         x: w.x,
@@ -194,62 +190,62 @@ fn less(n: u64) -> u64 {
 }
 
 // One key more was sent.
-fn keyed(w: Work) -> Work {
+fn keyed(p: Plan, w: Work) -> Work {
     let mut v = w;
     v.keys = more_if(true, w.keys);
-    filling(v)
+    filling(p, v)
 }
 
 // The generator goes on, and packets are sent until all are.
-fn drawn(w: Work) -> Work {
+fn drawn(p: Plan, w: Work) -> Work {
     let mut v = w;
     v.x = keys::next(w.x);
-    if v.done < v.plan.packets {
+    if v.done < p.packets {
         return v;
     }
-    sent(v)
+    sent(p, v)
 }
 
 // Servers are added until all are held.
-fn added(w: Work) -> Work {
-    if w.done < w.plan.servers {
+fn added(p: Plan, w: Work) -> Work {
+    if w.done < p.servers {
         return w;
     }
     with(w, Phase::Starting, 0)
 }
 
 // Servers are put to work until just the horizon is left.
-fn started(w: Work) -> Work {
-    if w.done < working(w.plan) {
+fn started(p: Plan, w: Work) -> Work {
+    if w.done < working(p) {
         return w;
     }
-    filling(with(w, Phase::Filling, 0))
+    filling(p, with(w, Phase::Filling, 0))
 }
 
 // New keys are sent until so many records are used, or 100,000 keys were sent. Then packets of those keys.
-fn filling(w: Work) -> Work {
-    if w.tally.used < w.plan.records {
+fn filling(p: Plan, w: Work) -> Work {
+    if w.tally.used < p.records {
         if w.keys < 100000 {
             return w;
         }
     }
     line(b"filled ", w);
     let v = with(w, Phase::Sending, 0);
-    if v.plan.packets > 0 {
+    if p.packets > 0 {
         return v;
     }
-    sent(v)
+    sent(p, v)
 }
 
 // All packets are sent.
-fn sent(w: Work) -> Work {
+fn sent(p: Plan, w: Work) -> Work {
     line(b"packets ", w);
-    changing(with(w, Phase::Leaving, 0))
+    changing(p, with(w, Phase::Leaving, 0))
 }
 
 // The first server of the horizon goes to work and leaves it, so many times. Then nothing is left to do.
-fn changing(w: Work) -> Work {
-    if w.done < w.plan.changes {
+fn changing(p: Plan, w: Work) -> Work {
+    if w.done < p.changes {
         return with(w, Phase::Joining, w.done);
     }
     line(b"changes ", w);
