@@ -1,12 +1,14 @@
 #!/usr/bin/env python3
-"""What the programs `limits`, `methods` and `vectors` must print, worked out from the sentences of document 01.
+"""What the programs `limits`, `methods`, `vectors` and `bench` must print, worked out from the sentences of document 01.
 
     python3 tests/independent.py limits  | cmp - crates/limits/stdout
     python3 tests/independent.py methods | cmp - crates/methods/stdout
     python3 tests/independent.py vectors | cmp - crates/vectors/stdout
+    python3 tests/independent.py bench   | cmp - crates/bench/stdout
+    python3 tests/independent.py bench METHOD SERVERS HORIZON RECORDS PACKETS CHANGES
 
-It reads the cases, crates/NAME/stdin, and nothing else: every rule below stands under the sentence
-that it was written from. Nothing here runs or reads the Rattle code.
+It reads the cases, crates/NAME/stdin (of `bench` crates/bench/args), and nothing else: every rule below
+stands under the sentence that it was written from. Nothing here runs or reads the Rattle code.
 """
 import os
 import sys
@@ -504,6 +506,115 @@ def vectors():
         line(f"{text} {F(data):08x}")
 
 
+# ----------------------------------------------------------------------------------------- bench
+
+class Balancer:
+    """A table of 3,276 records, a roster and a method, and what each event does to them."""
+
+    def __init__(self, method, rows):
+        self.table, self.roster = Table(bytes(65520)), Roster()
+        self.method, self.rows = method, rows
+
+    def sets(self):
+        pairs = self.roster.pairs()
+        return [s for s, x in pairs if x == 1], [s for s, x in pairs if x == 2]
+
+    def chosen(self, key):
+        """HRW by the digest; the ring's entry that the key reads; row r "ranked as HRW does with D = r" """
+        working, horizon = self.sets()
+        if self.method == 1:
+            return hrw_pick(working, horizon, digest(key))
+        if self.method == 2:
+            return key_read(working, horizon, F(key))[2:]
+        return hrw_pick(working, horizon, F(key) % self.rows)
+
+    def packet(self, key):
+        """Refusal, server, mark, reads. "if the key has a record, its server. Otherwise the choice .. If some horizon
+        server outranks the choice .. it is recorded where there is room"; reads are "the place of the record counted
+        from 1, or all records used before the event when the key has none" """
+        place, used = self.table.find(key), self.table.used()
+        if not self.sets()[0]:
+            return 7, 0, 0, 0
+        if place:
+            server = int.from_bytes(self.table.places[place - 1][16:20], "big")
+            return (0, server, 1, place) if self.roster.state_of(server) == 1 else (8, 0, 0, 0)
+        server, unsafe = self.chosen(key)
+        if not unsafe:
+            return 0, server, 2, used
+        self.table.append(key, server)
+        return 0, server, 3 if used < len(self.table.places) else 4, used
+
+    def change(self, kind, server):
+        """Kinds 3, 4 and 5, with refusals 4, 5, 3 and 6; "Remove working takes away every record naming that server." """
+        state, r = self.roster.state_of(server), self.roster
+        if kind == 5:
+            refusal = 3 if state else 6 if r.held == 64 else 0
+        else:
+            refusal = {3: 4, 4: 5}[kind] if state != {3: 2, 4: 1}[kind] else 0
+        self.roster = {3: r.add_working, 4: r.remove_working, 5: r.add_horizon}[kind](server)
+        if kind == 4 and not refusal:
+            self.table.remove_server(server)
+        return refusal, 0, 0, 0
+
+
+class Load:
+    """The program's stated generator and its checksum (the head of crates/bench/src/keys.rt states them)."""
+
+    def __init__(self):
+        self.x, self.sum, self.used, self.keys, self.refused = 1, 0, 0, 0, 0
+
+    @staticmethod
+    def server(j):
+        return (j + 1) * 2654435769 % 2**32
+
+    @staticmethod
+    def key(i):
+        return ((i * 2654435761 % 2**32).to_bytes(4, "big") + bytes([192, 0, 2, 1])
+                + (i * 40503 % 2**16).to_bytes(2, "big") + (443).to_bytes(2, "big") + b"\x06")
+
+    def drawn(self):
+        i = self.x // 256 % self.keys if self.keys else 0
+        self.x = (self.x * 1664525 + 1013904223) % 2**32
+        return i
+
+    def heard(self, reply):
+        refusal, server, mark, reads = reply
+        for a in (server, reads * 65536 + mark * 256 + refusal):
+            self.sum = (self.sum * 31 + a) % 2**58
+        self.used += mark == 3
+        self.refused += refusal > 0
+
+    def part(self, name):
+        line(f"{name} {self.sum} {self.used} {self.keys} {self.refused}")
+
+
+def bench():
+    """Configure, add and put to work; new keys until the records are used; packets of those keys; roster changes."""
+    words = sys.argv[2:]
+    if not words:
+        here = os.path.dirname(os.path.dirname(os.path.abspath(__file__)))
+        with open(os.path.join(here, "crates", "bench", "args")) as f:
+            words = f.read().split()
+    method, servers, horizon, records, packets, changes = map(int, words)
+    b, load = Balancer(method, 4096), Load()
+    load.heard((0, 0, 0, 0))        # configure is accepted: roster and table are empty
+    for j in range(servers):
+        load.heard(b.change(5, load.server(j)))
+    for j in range(servers - horizon):
+        load.heard(b.change(3, load.server(j)))
+    while load.used < records and load.keys < 100000:
+        load.heard(b.packet(load.key(load.keys)))
+        load.keys += 1
+    load.part("filled")
+    for _ in range(packets):
+        load.heard(b.packet(load.key(load.drawn())))
+    load.part("packets")
+    for _ in range(changes):
+        load.heard(b.change(3, load.server(servers - horizon)))
+        load.heard(b.change(4, load.server(servers - horizon)))
+    load.part("changes")
+
+
 def figures():
     """Document 01, "Worked figures", of these functions: P1 to P13, and two of the FNV authors' vectors."""
     assert [weight(s, 0) for s in (1, 2, 3, 4)] == [377401575, 1495354192, 465823161, 1583775778]
@@ -517,5 +628,5 @@ def figures():
 
 if __name__ == "__main__":
     figures()
-    {"limits": limits, "methods": methods, "vectors": vectors}[sys.argv[1]]()
+    {"limits": limits, "methods": methods, "vectors": vectors, "bench": bench}[sys.argv[1]]()
     sys.stdout.write("".join(text + "\n" for text in LINES))
