@@ -1,9 +1,9 @@
 // The cases: kinds of server numbers, sizes of the two sets, draws, methods. A line is printed for each.
 use crate::counts;
 use crate::numbers;
+use crate::ranges;
+use crate::ranges::Range;
 use crate::say;
-use crate::seen;
-use crate::seen::Seen;
 
 // A case; spread numbers are drawn so many times. The row count is 0 but for method 3.
 struct Case {
@@ -40,18 +40,42 @@ fn start(spread: bool) -> u32 {
     0
 }
 
+// What the draws of a case gave: keys of a working server, and keys to be recorded in a draw.
+struct Seen {
+    keys: Range,
+    recorded: Range,
+}
+
 // Server numbers are drawn, and every key is led to one of them, draw by draw.
 fn draws(points: &[u32], servers: &mut [u32], states: &[u8], c: Case) -> Seen {
-    let mut all = seen::nothing();
+    let mut keys = ranges::nothing();
+    let mut recorded = ranges::nothing();
     let mut x = start(c.spread);
     let mut n: u8 = 0;
     while n < c.draws {
         x = numbers::draw(servers, c.spread, x);
         let counts = counts::by(c.method, c.rows, points, servers, states);
-        all = seen::with(all, counts, c.working as usize);
+        keys = ranges::with_first(keys, counts, c.working as usize);
+        recorded = ranges::with(recorded, counts[64]);
         n += 1;
     }
-    all
+    Seen {
+        keys: keys,
+        recorded: recorded,
+    }
+}
+
+// The end of a case's line.
+fn show_seen(s: Seen) {
+    let keys = s.keys;
+    let recorded = s.recorded;
+    say::three(keys.low as u64, keys.high as u64, keys.none as u64);
+    say::three(
+        recorded.sum as u64,
+        recorded.low as u64,
+        recorded.high as u64,
+    );
+    say::text(b"\n");
 }
 
 // A case in the first places of two lists.
@@ -65,7 +89,7 @@ fn line_in(points: &[u32], servers: &mut [u32], states: &mut [u8], c: Case) {
         return;
     }
     show(c);
-    seen::show(draws(points, &mut servers[0..n], &states[0..n], c));
+    show_seen(draws(points, &mut servers[0..n], &states[0..n], c));
 }
 
 // A case's line.

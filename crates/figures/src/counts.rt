@@ -42,35 +42,38 @@ fn by_hrw(counts: &mut [u32], points: &[u32], servers: &[u32], states: &[u8]) {
     }
 }
 
+// What a point reads of a planned ring: the first of the n entries in use that is not below it, else the first entry.
+fn read(plan: [Entry; 64], n: usize, point: u32) -> Entry {
+    let mut i = 0;
+    while i < 64 {
+        if n <= i {
+            break;
+        }
+        let e = plan[i];
+        if point <= e.position {
+            return e;
+        }
+        i += 1;
+    }
+    plan[0]
+}
+
 // What an entry says.
-fn entry_says(e: Entry) -> Pick {
+fn said(e: Entry) -> Pick {
     Pick {
         server: e.server,
         flag: e.track != 0,
     }
 }
 
-// What a point reads of a planned ring: the first of the n entries in use that is not below it, else the first entry.
-fn read(plan: [Entry; 64], n: usize, point: u32) -> Pick {
-    let mut i = 0;
-    while i < 64 {
-        if n <= i {
-            return entry_says(plan[0]);
-        }
-        if point <= plan[i].position {
-            return entry_says(plan[i]);
-        }
-        i += 1;
-    }
-    entry_says(plan[0])
-}
-
 // The keys by the ring.
 fn by_ring(counts: &mut [u32], points: &[u32], servers: &[u32], states: &[u8]) {
     let plan = ringplan::plan(servers, states);
+    let n = servers.len();
     let mut i = 0;
     while i < points.len() {
-        tally(counts, servers, read(plan, servers.len(), points[i]));
+        let p = said(read(plan, n, points[i]));
+        tally(counts, servers, p);
         i += 1;
     }
 }

@@ -5,8 +5,8 @@ mod cases;
 mod counts;
 mod keys;
 mod numbers;
+mod ranges;
 mod say;
-mod seen;
 
 fn main() {
     let mut points = [0u32; 20000];

@@ -1,5 +1,6 @@
 // Server numbers in rising order, and their states, as the roster holds them.
 use crate::keys;
+use crate::ranges;
 
 // A number, and where the next one starts.
 struct Next {
@@ -24,22 +25,6 @@ fn one_from(spread: bool, x: u32) -> Next {
     }
 }
 
-// The lower of two numbers.
-fn lower(a: u32, b: u32) -> u32 {
-    if a < b {
-        return a;
-    }
-    b
-}
-
-// The higher of two numbers.
-fn higher(a: u32, b: u32) -> u32 {
-    if a < b {
-        return b;
-    }
-    a
-}
-
 // Puts one more number among the first n.
 fn put(servers: &mut [u32], n: usize, number: u32) {
     if servers.len() <= n {
@@ -49,8 +34,8 @@ fn put(servers: &mut [u32], n: usize, number: u32) {
     let mut i = 0;
     while i < n {
         let here = servers[i];
-        servers[i] = lower(here, carried);
-        carried = higher(here, carried);
+        servers[i] = ranges::lower(here, carried);
+        carried = ranges::higher(here, carried);
         i += 1;
     }
     servers[n] = carried;

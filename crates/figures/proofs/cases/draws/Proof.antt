@@ -7,13 +7,16 @@ use Rattle.figures.proofs.cases.draws.Statement.{statement}
 use Rattle.figures.proofs.cases.draws.Tie as tie
 
 abbrev Inv-loop : tie.InvT-loop
-Inv-loop points servers₀ states c all₀ x₀ n₀ servers all x n = (n ≤ c .draws) × (length servers ≡ length servers₀)
+Inv-loop points servers₀ states c keys₀ recorded₀ x₀ n₀ servers keys recorded x n = (n ≤ c .draws) × (length servers ≡ length servers₀)
 
 abbrev μ-loop : tie.MeasureT-loop
-μ-loop points servers₀ states c all₀ x₀ n₀ servers all x n = c .draws - n
+μ-loop points servers₀ states c keys₀ recorded₀ x₀ n₀ servers keys recorded x n = c .draws - n
 
 nothing-requires : tie.Need-nothing-requires Inv-loop μ-loop
 nothing-requires c κs = search needs
+
+nothing-requires-2 : tie.Need-nothing-requires-2 Inv-loop μ-loop
+nothing-requires-2 c κs = search needs
 
 start-requires : tie.Need-start-requires Inv-loop μ-loop
 start-requires c κs = search needs
@@ -27,8 +30,14 @@ draw-requires c κs = search needs
 by-requires : tie.Need-by-requires Inv-loop μ-loop
 by-requires c κs = search needs
 
-cast-with : tie.Need-cast-with Inv-loop μ-loop
-cast-with c = search needs
+cast-with-first : tie.Need-cast-with-first Inv-loop μ-loop
+cast-with-first c = search needs
+
+with-first-requires : tie.Need-with-first-requires Inv-loop μ-loop
+with-first-requires c κs = search needs
+
+array-read-with : tie.Need-array-read-with Inv-loop μ-loop
+array-read-with c = search needs
 
 with-requires : tie.Need-with-requires Inv-loop μ-loop
 with-requires c κs = search needs
@@ -55,11 +64,14 @@ draws-spec =
     Inv-loop
     μ-loop
     nothing-requires
+    nothing-requires-2
     start-requires
     loop-holds
     draw-requires
     by-requires
-    cast-with
+    cast-with-first
+    with-first-requires
+    array-read-with
     with-requires
     add-n
     loop-less

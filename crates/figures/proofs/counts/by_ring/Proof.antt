@@ -7,10 +7,10 @@ use Rattle.figures.proofs.counts.by_ring.Statement.{statement}
 use Rattle.figures.proofs.counts.by_ring.Tie as tie
 
 abbrev Inv-loop : tie.InvT-loop
-Inv-loop counts₀ points servers states plan i₀ counts i = (i ≤ length points) × (length counts ≡ length counts₀)
+Inv-loop counts₀ points servers states plan n i₀ counts i = (i ≤ length points) × (length counts ≡ length counts₀)
 
 abbrev μ-loop : tie.MeasureT-loop
-μ-loop counts₀ points servers states plan i₀ counts i = length points - i
+μ-loop counts₀ points servers states plan n i₀ counts i = length points - i
 
 plan-requires : tie.Need-plan-requires Inv-loop μ-loop
 plan-requires c κs = search needs
@@ -26,6 +26,9 @@ shared-slice-read-read c = search needs
 
 read-requires : tie.Need-read-requires Inv-loop μ-loop
 read-requires c κs = search needs
+
+said-requires : tie.Need-said-requires Inv-loop μ-loop
+said-requires c κs = search needs
 
 tally-requires : tie.Need-tally-requires Inv-loop μ-loop
 tally-requires c κs = search needs
@@ -56,6 +59,7 @@ by-ring-spec =
     mul-read
     shared-slice-read-read
     read-requires
+    said-requires
     tally-requires
     add-i
     loop-less

@@ -13,32 +13,14 @@ abbrev μ-loop : tie.MeasureT-loop
 loop-holds : tie.Need-loop-holds Inv-loop μ-loop
 loop-holds c = search needs
 
-array-copy-out-entry-says : tie.Need-array-copy-out-entry-says Inv-loop μ-loop
-array-copy-out-entry-says c = search needs
+mul-e : tie.Need-mul-e Inv-loop μ-loop
+mul-e c = search needs
 
-entry-says-requires : tie.Need-entry-says-requires Inv-loop μ-loop
-entry-says-requires c κs = search needs
+array-copy-out-e : tie.Need-array-copy-out-e Inv-loop μ-loop
+array-copy-out-e c = search needs
 
 returns : tie.Need-returns Inv-loop μ-loop
 returns c = search needs
-
-mul-if2 : tie.Need-mul-if2 Inv-loop μ-loop
-mul-if2 c = search needs
-
-element-copy-out-if2 : tie.Need-element-copy-out-if2 Inv-loop μ-loop
-element-copy-out-if2 c = search needs
-
-mul-entry-says : tie.Need-mul-entry-says Inv-loop μ-loop
-mul-entry-says c = search needs
-
-array-copy-out-entry-says-2 : tie.Need-array-copy-out-entry-says-2 Inv-loop μ-loop
-array-copy-out-entry-says-2 c = search needs
-
-entry-says-requires-2 : tie.Need-entry-says-requires-2 Inv-loop μ-loop
-entry-says-requires-2 c κs = search needs
-
-returns-2 : tie.Need-returns-2 Inv-loop μ-loop
-returns-2 c = search needs
 
 add-i : tie.Need-add-i Inv-loop μ-loop
 add-i c = search needs
@@ -49,14 +31,11 @@ loop-less c = search needs
 loop-again : tie.Need-loop-again Inv-loop μ-loop
 loop-again c = search needs
 
-array-copy-out-entry-says-3 : tie.Need-array-copy-out-entry-says-3 Inv-loop μ-loop
-array-copy-out-entry-says-3 c = search needs
+array-copy-out-result : tie.Need-array-copy-out-result Inv-loop μ-loop
+array-copy-out-result c = search needs
 
-entry-says-requires-3 : tie.Need-entry-says-requires-3 Inv-loop μ-loop
-entry-says-requires-3 c κs = search needs
-
-returns-3 : tie.Need-returns-3 Inv-loop μ-loop
-returns-3 c = search needs
+returns-2 : tie.Need-returns-2 Inv-loop μ-loop
+returns-2 c = search needs
 
 pub read-spec : {M : Type 1} → statement M
 read-spec =
@@ -65,18 +44,11 @@ read-spec =
     Inv-loop
     μ-loop
     loop-holds
-    array-copy-out-entry-says
-    entry-says-requires
+    mul-e
+    array-copy-out-e
     returns
-    mul-if2
-    element-copy-out-if2
-    mul-entry-says
-    array-copy-out-entry-says-2
-    entry-says-requires-2
-    returns-2
     add-i
     loop-less
     loop-again
-    array-copy-out-entry-says-3
-    entry-says-requires-3
-    returns-3)
+    array-copy-out-result
+    returns-2)
