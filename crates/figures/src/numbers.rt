@@ -1,0 +1,72 @@
+// Server numbers in rising order, and their states, as the roster holds them.
+use crate::keys;
+use crate::ranges;
+
+// A number, and where the next one starts.
+struct Next {
+    number: u32,
+    x: u32,
+}
+
+// The next number from x: a spread one is the next four bytes of the stream, else it is one more than x.
+fn one_from(spread: bool, x: u32) -> Next {
+    if !spread {
+        let number = std::num::wrapping_add_u32(x, 1);
+        return Next {
+            number: number,
+            x: number,
+        };
+    }
+    let mut four = [0u8; 4];
+    let after = keys::bytes(&mut four, x);
+    Next {
+        number: bigendian::join4(four[0], four[1], four[2], four[3]),
+        x: after,
+    }
+}
+
+// Puts one more number among the first n.
+fn put(servers: &mut [u32], n: usize, number: u32) {
+    if servers.len() <= n {
+        return;
+    }
+    let mut carried = number;
+    let mut i = 0;
+    while i < n {
+        let here = servers[i];
+        servers[i] = ranges::lower(here, carried);
+        carried = ranges::higher(here, carried);
+        i += 1;
+    }
+    servers[n] = carried;
+}
+
+// As many numbers as there are places, from a start; gives where the next draw starts.
+pub(crate) fn draw(servers: &mut [u32], spread: bool, start: u32) -> u32 {
+    let mut x = start;
+    let mut n = 0;
+    while n < servers.len() {
+        let one = one_from(spread, x);
+        put(servers, n, one.number);
+        x = one.x;
+        n += 1;
+    }
+    x
+}
+
+// 1 for a working server, 2 for one in the horizon.
+fn state(place: usize, working: usize) -> u8 {
+    if place < working {
+        return 1;
+    }
+    2
+}
+
+// The servers in the first places work, the others are in the horizon.
+pub(crate) fn states(states: &mut [u8], working: usize) {
+    let mut i = 0;
+    while i < states.len() {
+        states[i] = state(i, working);
+        i += 1;
+    }
+}

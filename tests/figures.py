@@ -1,0 +1,178 @@
+#!/usr/bin/env python3
+"""What the program `figures` must print, worked out from the sentences of document 01; and the tables of docs/FIGURES.md,
+made of the program's stored output.
+
+    python3 tests/figures.py figures | cmp - crates/figures/stdout
+    python3 tests/figures.py tables < crates/figures/stdout
+
+The hashes and rankings are those of tests/independent.py. Nothing here runs or reads the Rattle code.
+"""
+import bisect
+import math
+import sys
+
+import independent
+from independent import F, hrw_pick, ring_pick
+
+KEYS, PLACES = 20000, 3276
+SIZES = (8, 16, 32, 64)
+SETS = ((8, 1), (8, 2), (8, 4), (8, 8), (14, 2), (16, 4), (32, 1), (32, 8))
+HEAD = "numbers working horizon draws method rows fewest most none recorded low high"
+
+
+class Stream:
+    """Bytes: x' = (1664525 x + 1013904223) modulo 2^32, and the high byte of each x'."""
+
+    def __init__(self, x):
+        self.x = x
+
+    def bytes(self, n):
+        out = []
+        for _ in range(n):
+            self.x = (1664525 * self.x + 1013904223) % 2**32
+            out.append(self.x >> 24)
+        return bytes(out)
+
+
+def key_points():
+    """F of 20,000 keys, each the next 13 bytes of the stream that starts at 1."""
+    stream = Stream(1)
+    keys = [stream.bytes(13) for _ in range(KEYS)]
+    assert len(set(keys)) == KEYS
+    return [F(k) for k in keys]
+
+
+def drawn(stream, n):
+    """Spread server numbers in rising order, each the next four bytes; none 0, no two alike in their low 31 bits."""
+    servers = sorted(int.from_bytes(stream.bytes(4), "big") for _ in range(n))
+    assert 0 not in servers and len({s % 2**31 for s in servers}) == n
+    return servers
+
+
+# ------------------------------------------------------------ every key's server and flag, in a hurry
+
+def by_hrw(points, working, horizon):
+    """"Weight of server S at digest D"; no two are equal, as the numbers differ in their low 31 bits"""
+    at_work = [(1103515245 * s + 12345) % 2**31 for s in working]
+    standby = [(1103515245 * s + 12345) % 2**31 for s in horizon]
+    picks = []
+    for p in points:
+        d = p % 2**31
+        weights = [(1103515245 * (u ^ d) + 12345) % 2**31 for u in at_work]
+        best = max(weights)
+        outranked = any((1103515245 * (u ^ d) + 12345) % 2**31 > best for u in standby)
+        picks.append((working[weights.index(best)], int(outranked)))
+    for i in range(0, len(points), 4000):
+        assert picks[i] == hrw_pick(working, horizon, points[i] % 2**31)
+    return picks
+
+
+def by_ring(points, working, horizon):
+    """"A key reads the first entry in use whose position is not below its point, else the first entry." """
+    entries = independent.plan(working, horizon)
+    positions = [e[0] for e in entries]
+    picks = [entries[bisect.bisect_left(positions, p) % len(entries)][1:] for p in points]
+    for i in range(0, len(points), 4000):
+        assert picks[i] == ring_pick(working, horizon, points[i])
+    return picks
+
+
+def by_rows(rows):
+    """"the row is F(key) modulo the number of rows"; "ranked in row r as HRW does with D = r" """
+    def by(points, working, horizon):
+        row = by_hrw(list(range(rows)), working, horizon)
+        return [row[p % rows] for p in points]
+    return by
+
+
+WAYS = ((1, 0, by_hrw), (2, 0, by_ring), (3, 4096, by_rows(4096)), (3, 256, by_rows(256)))
+
+
+# ----------------------------------------------------------------------------------------- lines
+
+def lines(points, numbers, working, horizon, draws, ring_draws):
+    """A line for each method. The lowest numbers work, the others are in the horizon."""
+    n = working + horizon
+    for method, rows, by in WAYS:
+        stream, loads, recorded = Stream(2), [], []
+        times = ring_draws if method == 2 else draws
+        for _ in range(times):
+            servers = drawn(stream, n) if numbers == "spread" else list(range(1, n + 1))
+            picks = by(points, servers[:working], servers[working:])
+            keys = {s: 0 for s in servers[:working]}
+            for c, _ in picks:
+                keys[c] += 1
+            loads += keys.values()
+            recorded.append(sum(flag for _, flag in picks))
+        print(numbers, working, horizon, times, method, rows, min(loads), max(loads), loads.count(0), sum(recorded),
+              min(recorded), max(recorded))
+
+
+def figures():
+    points = key_points()
+    print(HEAD)
+    for numbers in ("spread", "consecutive"):
+        for n in SIZES:
+            lines(points, numbers, n, 0, 1, 1)
+    for working, horizon in SETS:
+        lines(points, "spread", working, horizon, 10, 100)
+
+
+# ---------------------------------------------------------------------------------------- tables
+
+def tenths(part, whole):
+    """Per cent, rounded to tenths."""
+    n = (2000 * part + whole) // (2 * whole)
+    return f"{n // 10}.{n % 10}"
+
+
+def evenness_cell(f):
+    n = int(f["working"])
+    low, high, none = int(f["fewest"]), int(f["most"]), int(f["none"])
+    text = f"{low:,} to {high:,} ({tenths(low * n, KEYS)} to {tenths(high * n, KEYS)} %)"
+    return text + (f", {none} with none" if none else "")
+
+
+def share_cell(f):
+    mean = tenths(int(f["recorded"]), KEYS * int(f["draws"]))
+    return f"{mean} ({tenths(int(f['low']), KEYS)} to {tenths(int(f['high']), KEYS)})"
+
+
+def sessions(share, whole, places):
+    """The most sessions n whose mean number of records and three standard deviations fit: n p + 3 sqrt(n p (1 - p))."""
+    n = 0
+    while True:
+        mean, variance = (n + 1) * share, (n + 1) * share * (whole - share)
+        if mean + 3 * math.sqrt(variance) > places * whole:
+            return n
+        n += 1
+
+
+def tables():
+    head, *rows = sys.stdin.read().splitlines()
+    assert head == HEAD
+    found = [dict(zip(HEAD.split(), r.split())) for r in rows]
+    groups = [found[i:i + len(WAYS)] for i in range(0, len(found), len(WAYS))]
+    print("| numbers | servers | even share | HRW | ring | 4,096 rows | 256 rows |")
+    print("|---|---|---|---|---|---|---|")
+    for g in groups:
+        n = int(g[0]["working"])
+        if g[0]["horizon"] == "0":
+            print(f"| {g[0]['numbers']} | {n} | {KEYS / n:,g} | " + " | ".join(map(evenness_cell, g)) + " |")
+    print()
+    print("| working | horizon | theorem 4.2 | HRW | ring | 4,096 rows | 256 rows |")
+    print("|---|---|---|---|---|---|---|")
+    for g in groups:
+        w, h = int(g[0]["working"]), int(g[0]["horizon"])
+        if h:
+            print(f"| {w} | {h} | {tenths(h, w + h)} | " + " | ".join(map(share_cell, g)) + " |")
+    print()
+    print("| standbys : working | share | sessions on average | with the margin |")
+    print("|---|---|---|---|")
+    for w, h in ((32, 1), (16, 1), (8, 1), (14, 2), (13, 3), (8, 2), (8, 4), (8, 8)):
+        print(f"| {h} : {w} | {tenths(h, w + h)} % | {PLACES * (w + h) // h:,} | {sessions(h, w + h, PLACES):,} |")
+
+
+if __name__ == "__main__":
+    independent.figures()
+    {"figures": figures, "tables": tables}[sys.argv[1]]()
