@@ -13,10 +13,22 @@ use Rattle.sets.specs.Sets.{member, inState}
 use Rattle.ring.specs.declared.Entry.{Entry}
 use Rattle.ring.specs.Ring.{blank, overlaid}
 use Rattle.ringplan.specs.Plan.{placed, arranged, entryOf, entries, drawn, planned}
-use Rattle.ringplan.specs.Keys.{keyOf, keyServer, keyPlaced, keySought, keyAway, keyEntry}
+use Rattle.ringplan.specs.Keys.{keyOf, keyServer, keyPlaced, Rising, keySought, keyAway, keyEntry}
 use Rattle.ringplan.proofs.Order.{length-arranged}
+use Rattle.ringplan.proofs.Placing.{rising-placed}
 use Rattle.ringplan.proofs.Keys.{Fit, fit-all, fit-at, fit-in-state, fit-arranged, getD-map, placed-keys, entry-keys}
 use Rattle.ringplan.proofs.Reading.{length-entries}
+
+-- keys put in order don't fall
+keys-rising : (l : List ℕ) → Fit l → Rising 0 (map keyOf (arranged l))
+unfolding arranged
+keys-rising [] f = tt
+keys-rising (s ∷ l) f =
+    rw (sym (placed-keys s (arranged l) (f .0) (fit-arranged l (f .1))))
+    (rising-placed 0 (keyOf s) (map keyOf (arranged l)) (omega arith) (keys-rising l (f .1)))
+
+fit-drop : (l : List ℕ) (i : ℕ) → ((j : ℕ) → getD l j 0 < 2 ^ 32) → Fit (drop i l)
+fit-drop l i fit = fit-all (drop i l) (λ j. rw (getD-drop i l j 0) (fit (i + j)))
 
 -- the keys of the servers from index i on stand in order in the first n places
 pub record Arranging (servers order : List ℕ) (n i : ℕ) : Type 0 where
@@ -46,9 +58,12 @@ arranging-more servers order order′ n i k some-left a l fit q e =
       so =
           e
           ∙ rw (q, a .so)
-          (placed-keys x (arranged (drop i servers)) (fit (i - 1)) (fit-arranged (drop i servers) (fit-all (drop i servers) (λ j. rw (getD-drop i servers j 0) (fit (i + j)))))
+          (placed-keys x (arranged (drop i servers)) (fit (i - 1)) (fit-arranged (drop i servers) (fit-drop servers i fit))
           ∙ ap (map keyOf) (arranged-step servers i (i - 1) (omega arith) (omega (arith, a .counted))));
     }
+
+pub arranging-rises : (servers order : List ℕ) (n i : ℕ) → ((j : ℕ) → getD servers j 0 < 2 ^ 32) → Arranging servers order n i → Rising 0 (take n order)
+arranging-rises servers order n i fit a = rw (a .so) (keys-rising (drop i servers) (fit-drop servers i fit))
 
 pub arranging-done : (servers order : List ℕ) (n i : ℕ) → i ≤ 0 → Arranging servers order n i → take (length servers) order ≡ map keyOf (arranged servers)
 arranging-done servers order n i end a =

@@ -1,5 +1,5 @@
 -- Keys: a server's place in the ring's order as one number. They stand in the promises of this crate's private functions alone; `planned` knows nothing of them.
-use Prim.Native.Nat.{ℕ, _+_, _*_, _-_, _/_, _%_, _^_}
+use Prim.Native.Nat.{ℕ, _+_, _*_, _-_, _/_, _%_, _^_, _≤_}
 use mathlib.Core.Bool.{Bool, true, false, cond}
 use mathlib.Core.List.{List, [], _∷_}
 use lib.Dec.{leb, ltb}
@@ -19,6 +19,11 @@ keyServer k = 2 ^ 32 - 1 - k % 2 ^ 32
 unfoldable pub keyPlaced : ℕ → List ℕ → List ℕ
 keyPlaced k [] = k ∷ []
 keyPlaced k (x ∷ l) = cond (ltb x k) (x ∷ keyPlaced k l) (k ∷ keyPlaced x l)
+
+-- keys that don't fall, from a bound on
+abbrev pub Rising : ℕ → List ℕ → Type 0
+Rising b [] = Unit {0}
+Rising b (k ∷ l) = (b ≤ k) × Rising k l
 
 -- the first key that is not below a bound, else d
 unfoldable pub keySought : ℕ → List ℕ → ℕ → ℕ

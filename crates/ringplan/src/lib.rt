@@ -5,7 +5,7 @@ ghost use Prim.Native.Nat.{_<_, _≤_, _+_};
 ghost use lib.ListN.{length, getD, take, replicate};
 ghost use Rattle.sets.specs.Sets.{member, inState};
 ghost use Rattle.ringplan.specs.Plan.{arranged, planned};
-ghost use Rattle.ringplan.specs.Keys.{keyOf, keyServer, keyPlaced, keySought, keyEntry};
+ghost use Rattle.ringplan.specs.Keys.{keyOf, keyServer, keyPlaced, Rising, keySought, keyEntry};
 ghost use Rattle.ring.specs.Ring.{blank};
 use ring::Entry;
 
@@ -16,22 +16,22 @@ fn key(server: u32) -> u64
     (hash::position(server) as u64) * 4294967296 + (4294967295 - (server as u64))
 }
 
-// Puts one more key among the first n of an order.
+// Puts one more key among the first n of an order: those above it move up by one.
 fn place(order: &mut [u64], n: usize, key: u64)
-    requires { ⌜ n < length (now order) ⌝ }
+    requires { ⌜ (n < length (now order)) × Rising 0 (take n (now order)) ⌝ }
     ensures { λ _. ⌜ take (n + 1) (now (order .exit)) ≡ keyPlaced key (take n (now (order .entry))) ⌝ }
 {
-    let mut carried = key;
-    let mut i = 0;
-    while i < n {
-        let here = order[i];
-        if carried <= here {
-            order[i] = carried;
-            carried = here;
+    let mut i = n;
+    while 0 < i {
+        let here = order[i - 1];
+        if here <= key {
+            order[i] = key;
+            return;
         }
-        i += 1;
+        order[i] = here;
+        i -= 1;
     }
-    order[n] = carried;
+    order[0] = key;
 }
 
 // The keys of servers, 64 at most, in the ring's order.

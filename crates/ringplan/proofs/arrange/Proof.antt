@@ -1,7 +1,7 @@
 -- `ringplan::arrange` meets its contract.
 use Prim.Native.Nat.{_-_}
 use native.Mathlib.Omega.{arith}
-use Rattle.ringplan.proofs.Planning.{Arranging, arranging-none, arranging-more, arranging-done}
+use Rattle.ringplan.proofs.Planning.{Arranging, arranging-none, arranging-more, arranging-rises, arranging-done}
 use borrow.Author.Needs.{needs}
 use Rattle.ringplan.proofs.arrange.Statement.{statement}
 use Rattle.ringplan.proofs.arrange.Tie as tie
@@ -31,7 +31,10 @@ key-requires : tie.Need-key-requires Inv-loop μ-loop
 key-requires c κs = search needs
 
 place-requires : tie.Need-place-requires Inv-loop μ-loop
-place-requires c κs = search needs
+place-requires c κs =
+    let l = c .before .before .before .before in
+    let p = l .before .before .args in
+    (search needs, arranging-rises (p .servers .now) (l .loop .order) (l .loop .n) (l .loop .i) (λ j. omega (arith, c .before .shared-slice-known2 .given j)) (l .loop .inv))
 
 add-n : tie.Need-add-n Inv-loop μ-loop
 add-n c = search needs
