@@ -17,7 +17,7 @@ from independent import F, hrw_pick, ring_pick
 KEYS, PLACES = 20000, 3276
 SIZES = (8, 16, 32, 64)
 SETS = ((8, 1), (8, 2), (8, 4), (8, 8), (14, 2), (16, 4), (32, 1), (32, 8))
-HEAD = "numbers working horizon draws method rows fewest most none recorded low high"
+HEAD = "spread working horizon draws method rows fewest most none recorded low high"
 
 
 class Stream:
@@ -90,32 +90,31 @@ WAYS = ((1, 0, by_hrw), (2, 0, by_ring), (3, 4096, by_rows(4096)), (3, 256, by_r
 
 # ----------------------------------------------------------------------------------------- lines
 
-def lines(points, numbers, working, horizon, draws, ring_draws):
+def lines(points, spread, working, horizon, draws, ring_draws):
     """A line for each method. The lowest numbers work, the others are in the horizon."""
     n = working + horizon
     for method, rows, by in WAYS:
         stream, loads, recorded = Stream(2), [], []
         times = ring_draws if method == 2 else draws
         for _ in range(times):
-            servers = drawn(stream, n) if numbers == "spread" else list(range(1, n + 1))
+            servers = drawn(stream, n) if spread else list(range(1, n + 1))
             picks = by(points, servers[:working], servers[working:])
             keys = {s: 0 for s in servers[:working]}
             for c, _ in picks:
                 keys[c] += 1
             loads += keys.values()
             recorded.append(sum(flag for _, flag in picks))
-        print(numbers, working, horizon, times, method, rows, min(loads), max(loads), loads.count(0), sum(recorded),
+        print(spread, working, horizon, times, method, rows, min(loads), max(loads), loads.count(0), sum(recorded),
               min(recorded), max(recorded))
 
 
 def figures():
     points = key_points()
-    print(HEAD)
-    for numbers in ("spread", "consecutive"):
+    for spread in (1, 0):
         for n in SIZES:
-            lines(points, numbers, n, 0, 1, 1)
+            lines(points, spread, n, 0, 1, 1)
     for working, horizon in SETS:
-        lines(points, "spread", working, horizon, 10, 100)
+        lines(points, 1, working, horizon, 10, 100)
 
 
 # ---------------------------------------------------------------------------------------- tables
@@ -149,16 +148,15 @@ def sessions(share, whole, places):
 
 
 def tables():
-    head, *rows = sys.stdin.read().splitlines()
-    assert head == HEAD
-    found = [dict(zip(HEAD.split(), r.split())) for r in rows]
+    found = [dict(zip(HEAD.split(), r.split())) for r in sys.stdin]
     groups = [found[i:i + len(WAYS)] for i in range(0, len(found), len(WAYS))]
     print("| numbers | servers | even share | HRW | ring | 4,096 rows | 256 rows |")
     print("|---|---|---|---|---|---|---|")
     for g in groups:
         n = int(g[0]["working"])
         if g[0]["horizon"] == "0":
-            print(f"| {g[0]['numbers']} | {n} | {KEYS / n:,g} | " + " | ".join(map(evenness_cell, g)) + " |")
+            numbers = "spread" if g[0]["spread"] == "1" else "consecutive"
+            print(f"| {numbers} | {n} | {KEYS / n:,g} | " + " | ".join(map(evenness_cell, g)) + " |")
     print()
     print("| working | horizon | theorem 4.2 | HRW | ring | 4,096 rows | 256 rows |")
     print("|---|---|---|---|---|---|---|")

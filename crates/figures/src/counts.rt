@@ -78,25 +78,34 @@ fn by_ring(counts: &mut [u32], points: &[u32], servers: &[u32], states: &[u8]) {
     }
 }
 
+// The keys by rows that are filled.
+fn by_filled(
+    counts: &mut [u32],
+    points: &[u32],
+    servers: &[u32],
+    chosen: &[u32],
+    flags: &[u8],
+    rows: u16,
+) {
+    let mut i = 0;
+    while i < points.len() {
+        let p = rows::read(chosen, flags, rows, points[i]);
+        tally(counts, servers, p);
+        i += 1;
+    }
+}
+
 // The keys by rows.
 fn by_rows(counts: &mut [u32], points: &[u32], servers: &[u32], states: &[u8], rows: u16) {
     let mut chosen = [0u32; 4096];
     let mut flags = [0u8; 4096];
     rows::fill(&mut chosen, &mut flags, rows, servers, states);
-    let mut i = 0;
-    while i < points.len() {
-        tally(
-            counts,
-            servers,
-            rows::read(&chosen, &flags, rows, points[i]),
-        );
-        i += 1;
-    }
+    by_filled(counts, points, servers, &chosen, &flags, rows);
 }
 
 // The keys by a method: 1 HRW, 2 ring, else rows.
 pub(crate) fn by(
-    method: u8,
+    method: u32,
     rows: u16,
     points: &[u32],
     servers: &[u32],

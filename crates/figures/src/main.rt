@@ -1,6 +1,8 @@
 // Figures for the planner: how evenly each method spreads 20,000 keys over its servers, and how many of them it records.
-// Each line has a case and what was counted; docs/FIGURES.md says what it means. What must be printed stands in the file
-// stdout, worked out from document 01.
+// A line for each case: whether the server numbers are spread (1) or consecutive (0), how many work and how many are in
+// the horizon, how often numbers were drawn, method and row count; then the fewest and the most keys that a working server
+// got, how often one got none, and the recorded keys of all draws, of the lowest and of the highest. docs/FIGURES.md says
+// what it means. What must be printed stands in the file stdout, worked out from document 01.
 mod cases;
 mod counts;
 mod keys;
@@ -11,8 +13,7 @@ mod say;
 fn main() {
     let mut points = [0u32; 20000];
     keys::points(&mut points);
-    say::text(b"numbers working horizon draws method rows fewest most none recorded low high\n");
-    cases::evenness(&points, true);
-    cases::evenness(&points, false);
+    cases::evenness(&points, 1);
+    cases::evenness(&points, 0);
     cases::shares(&points);
 }

@@ -8,21 +8,34 @@ struct Next {
     x: u32,
 }
 
-// The next number from x: a spread one is the next four bytes of the stream, else it is one more than x.
-fn one_from(spread: bool, x: u32) -> Next {
-    if !spread {
-        let number = std::num::wrapping_add_u32(x, 1);
-        return Next {
-            number: number,
-            x: number,
-        };
-    }
+// The next spread number from x: the next four bytes of the stream.
+fn spread_from(x: u32) -> Next {
     let mut four = [0u8; 4];
     let after = keys::bytes(&mut four, x);
     Next {
         number: bigendian::join4(four[0], four[1], four[2], four[3]),
         x: after,
     }
+}
+
+// The next number from x: a spread one for 1, one more than x for 0.
+fn one_from(spread: u32, x: u32) -> Next {
+    if spread == 1 {
+        return spread_from(x);
+    }
+    let number = std::num::wrapping_add_u32(x, 1);
+    Next {
+        number: number,
+        x: number,
+    }
+}
+
+// Where the first number starts: the stream of spread ones at 2; consecutive ones begin with 1.
+pub(crate) fn start(spread: u32) -> u32 {
+    if spread == 1 {
+        return 2;
+    }
+    0
 }
 
 // Puts one more number among the first n.
@@ -42,7 +55,7 @@ fn put(servers: &mut [u32], n: usize, number: u32) {
 }
 
 // As many numbers as there are places, from a start; gives where the next draw starts.
-pub(crate) fn draw(servers: &mut [u32], spread: bool, start: u32) -> u32 {
+pub(crate) fn draw(servers: &mut [u32], spread: u32, start: u32) -> u32 {
     let mut x = start;
     let mut n = 0;
     while n < servers.len() {

@@ -1,4 +1,7 @@
-// Numbers seen one after the other: the lowest, the highest, how many were 0, and their sum.
+// Numbers seen one after the other.
+use crate::say;
+
+// The lowest, the highest, how many were 0, and their sum.
 pub struct Range {
     pub low: u32,
     pub high: u32,
@@ -62,4 +65,12 @@ pub(crate) fn with_first(r: Range, counts: [u32; 65], n: usize) -> Range {
         i += 1;
     }
     next
+}
+
+// Keys of a working server: the fewest, the most, how often none; keys recorded: in all draws, in the lowest, in the highest.
+pub(crate) fn show(keys: Range, recorded: Range) {
+    say::three(keys.low, keys.high, keys.none);
+    say::number(recorded.sum);
+    say::number(recorded.low);
+    say::last(recorded.high);
 }

@@ -1,20 +1,27 @@
-// Text and numbers on standard output.
+// Numbers on standard output.
 use libc::STDOUT_FILENO;
 
-// Some text.
-pub(crate) fn text(bytes: &[u8]) {
-    io::write_all(STDOUT_FILENO, bytes);
+// One character.
+fn letter(c: u8) {
+    let one = [c];
+    io::write_all(STDOUT_FILENO, &one);
 }
 
-// A number behind a space.
-pub(crate) fn number(n: u64) {
-    text(b" ");
-    io::print_decimal(STDOUT_FILENO, n);
+// A number, and a space.
+pub(crate) fn number(n: u32) {
+    io::print_decimal(STDOUT_FILENO, n as u64);
+    letter(b' ');
 }
 
 // Three numbers.
-pub(crate) fn three(a: u64, b: u64, c: u64) {
+pub(crate) fn three(a: u32, b: u32, c: u32) {
     number(a);
     number(b);
     number(c);
+}
+
+// The last number of a line.
+pub(crate) fn last(n: u32) {
+    io::print_decimal(STDOUT_FILENO, n as u64);
+    letter(10);
 }

@@ -51,6 +51,9 @@ loop-less c = search needs
 loop-again : tie.Need-loop-again Inv-loop μ-loop
 loop-again c = search needs
 
+show-requires : tie.Need-show-requires Inv-loop μ-loop
+show-requires c κs = search needs
+
 same-length : tie.Need-same-length Inv-loop μ-loop
 same-length c = search needs
 
@@ -76,5 +79,6 @@ draws-spec =
     add-n
     loop-less
     loop-again
+    show-requires
     same-length
     returns)
