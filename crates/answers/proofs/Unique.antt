@@ -7,10 +7,10 @@ use mathlib.Core.Path.{_≡_, sym, ap, _∙_}
 use Rattle.roster.specs.declared.Roster.{Roster}
 use Rattle.rules.specs.declared.Reply.{Reply}
 use Rattle.rules.specs.Answer.{accepts}
-use Rattle.rules.specs.Rules.{Change, answered, refused}
+use Rattle.rules.specs.Rules.{Change, refused}
 use Rattle.rules.proofs.Apart.{told-apart}
 use Rattle.answers.specs.declared.Reaction.{Reaction}
-use Rattle.answers.specs.Reacting.{stateWith, reacted}
+use Rattle.answers.specs.Reacting.{stateWith, reacted, replied}
 
 pub record SameReaction (v v′ : Reaction) (t t′ ns ns′ fs fs′ : List ℕ) : Type 0 where
   pub reaction : v ≡ v′
@@ -21,7 +21,7 @@ pub record SameReaction (v v′ : Reaction) (t t′ ns ns′ fs fs′ : List ℕ
 same : (v v′ : Reaction) → v .reply ≡ v′ .reply → v .roster ≡ v′ .roster → v .redraw ≡ v′ .redraw → v ≡ v′
 same v v′ a b c = λ i. record { reply = a i; roster = b i; redraw = c i }
 
--- for `packets::packet`, every function of `changes` and `engine::react`
+-- for `engine::react` and every function of `changes` that hands back a reaction
 pub reaction-unique : (v v′ : Reaction) (t t′ rows rows′ flags flags′ : List ℕ) (c : Change)
     → reacted v t rows flags ≡ c → reacted v′ t′ rows′ flags′ ≡ c → SameReaction v v′ t t′ rows rows′ flags flags′
 reaction-unique v v′ t t′ rows rows′ flags flags′ c p q =
@@ -39,16 +39,27 @@ reaction-unique v v′ t t′ rows rows′ flags flags′ c p q =
       flags = ap (λ (x : Change). x .state .flags) e;
     }
 
+pub record SameReply (v v′ : Reply) (t t′ : List ℕ) : Type 0 where
+  pub reply : v ≡ v′
+  pub table : t ≡ t′
+
+-- for `packets::packet` and `changes::end`, which hand back a reply alone and are lent no more than the table to write
+pub reply-unique : (v v′ : Reply) (t t′ rows flags : List ℕ) (r : Roster) (c : Change)
+    → replied v t rows flags r ≡ c → replied v′ t′ rows flags r ≡ c → SameReply v v′ t t′
+reply-unique v v′ t t′ rows flags r c p q =
+    let e : replied v t rows flags r ≡ replied v′ t′ rows flags r = p ∙ sym q in
+    record { reply = told-apart v v′ (ap (λ (x : Change). x .told) e); table = ap (λ (x : Change). x .state .table) e }
+
 -- for the functions of this crate, which touch no buffer
 pub refused-unique : (n : ℕ) (r : Roster) (v v′ : Reaction)
     → ((t rows flags : List ℕ) → reacted v t rows flags ≡ refused n (stateWith t rows flags r))
     → ((t rows flags : List ℕ) → reacted v′ t rows flags ≡ refused n (stateWith t rows flags r)) → v ≡ v′
 refused-unique n r v v′ p q = reaction-unique v v′ [] [] [] [] [] [] _ (p [] [] []) (q [] [] []) .reaction
 
-pub accepted-unique : (s mark reads : ℕ) (r : Roster) (v v′ : Reaction)
-    → ((t′ t rows flags : List ℕ) → reacted v t′ rows flags ≡ answered (accepts s mark reads) t′ (stateWith t rows flags r))
-    → ((t′ t rows flags : List ℕ) → reacted v′ t′ rows flags ≡ answered (accepts s mark reads) t′ (stateWith t rows flags r)) → v ≡ v′
-accepted-unique s mark reads r v v′ p q = reaction-unique v v′ [] [] [] [] [] [] _ (p [] [] [] []) (q [] [] [] []) .reaction
+pub stays-unique : (reply : Reply) (r : Roster) (v v′ : Reaction)
+    → ((t rows flags : List ℕ) → reacted v t rows flags ≡ replied reply t rows flags r)
+    → ((t rows flags : List ℕ) → reacted v′ t rows flags ≡ replied reply t rows flags r) → v ≡ v′
+stays-unique reply r v v′ p q = reaction-unique v v′ [] [] [] [] [] [] _ (p [] [] []) (q [] [] []) .reaction
 
 pub taken-unique : (next : Roster) (redraw : Bool) (v v′ : Reaction)
     → ((t rows flags : List ℕ) → reacted v t rows flags ≡ record { told = accepts 0 0 0; state = stateWith t rows flags next; redraw = redraw })

@@ -3,8 +3,8 @@ ghost use mathlib.Core.Path.{_≡_};
 ghost use mathlib.Core.List.{List};
 ghost use Prim.Native.Nat.{ℕ};
 ghost use Rattle.rules.specs.Answer.{accepts};
-ghost use Rattle.rules.specs.Rules.{answered, refused as refused-by};
-ghost use Rattle.answers.specs.Reacting.{stateWith, reacted};
+ghost use Rattle.rules.specs.Rules.{refused as refused-by};
+ghost use Rattle.answers.specs.Reacting.{stateWith, reacted, replied};
 use roster::Roster;
 use rules::Reply;
 
@@ -26,16 +26,12 @@ pub fn refused(number: u8, r: Roster) -> Reaction
     }
 }
 
-// An accepted packet or end; the roster stays.
-pub fn accepted(server: u32, mark: u8, reads: usize, r: Roster) -> Reaction
-    ensures { λ v. ⌜ ((t′ t rows flags : List ℕ) → reacted v t′ rows flags ≡ answered (accepts server mark reads) t′ (stateWith t rows flags r)) ⌝ }
+// A reply to a packet or an end: the roster stays.
+pub fn stays(reply: Reply, r: Roster) -> Reaction
+    ensures { λ v. ⌜ ((t rows flags : List ℕ) → reacted v t rows flags ≡ replied reply t rows flags r) ⌝ }
 {
     Reaction {
-        reply: Reply::Accepted {
-            server: server,
-            mark: mark,
-            reads: reads,
-        },
+        reply: reply,
         roster: r,
         redraw: false,
     }

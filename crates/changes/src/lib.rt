@@ -1,6 +1,7 @@
 // The events that change table or roster: ends, the four roster changes, configure.
 use answers::Reaction;
 use roster::Roster;
+use rules::Reply;
 use settings::Settings;
 use table::Found;
 ghost use mathlib.Core.Path.{_≡_};
@@ -13,20 +14,28 @@ ghost use Rattle.roster.specs.Roster.{workingSet, horizon};
 ghost use Rattle.rows.specs.Rows.{Rows, filled};
 ghost use Rattle.table.specs.Table.{Finding, told as told-found};
 ghost use Rattle.rules.specs.Answer.{accepts};
-ghost use Rattle.rules.specs.Rules.{answered, changed, judged, refused as refused-by};
-ghost use Rattle.answers.specs.Reacting.{stateWith, reacted};
+ghost use Rattle.rules.specs.Rules.{changed, judged, refused as refused-by};
+ghost use Rattle.answers.specs.Reacting.{stateWith, reacted, replied};
 
 // An end of connection: the key's record is taken away.
-pub fn end(found: Found, table: &mut [u8], r: Roster) -> Reaction
-    ensures { λ v. ⌜ ((key : List ℕ) (pick : Pick) (rows flags : List ℕ)
-        → reacted v (now (table .exit)) rows flags ≡ judged (toldAs End key) (told-found found) pick (stateWith (now (table .entry)) rows flags r)) ⌝ }
+pub fn end(found: Found, table: &mut [u8]) -> Reply
+    ensures { λ v. ⌜ ((key : List ℕ) (pick : Pick) (rows flags : List ℕ) (r : Roster)
+        → replied v (now (table .exit)) rows flags r ≡ judged (toldAs End key) (told-found found) pick (stateWith (now (table .entry)) rows flags r)) ⌝ }
 {
     match found {
         Found::At(place) => {
             table::remove(table, place);
-            answers::accepted(0, 5, place, r)
+            Reply::Accepted {
+                server: 0,
+                mark: 5,
+                reads: place,
+            }
         }
-        Found::Nothing(used) => answers::accepted(0, 6, used, r),
+        Found::Nothing(used) => Reply::Accepted {
+            server: 0,
+            mark: 6,
+            reads: used,
+        },
     }
 }
 

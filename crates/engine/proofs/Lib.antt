@@ -1,3 +1,4 @@
+pub mod Admitting
 pub mod OfLooking
 pub mod Whole
 pub mod Unique

@@ -18,19 +18,19 @@ use Rattle.table.specs.Table.{told as told-found}
 use Rattle.rules.specs.Rules.{is}
 use Rattle.engine.specs.Looking.{Looked, nothingFound, lookOf}
 
-module _ (e : Event) (t : List ℕ) (r : Roster) where
+module _ (e : Event) (t : List ℕ) (sized : Bool) (r : Roster) where
   pub look-keyless : (a : Ask) → e .ask ≡ a → is 1 (toldAs a (e .key)) ≡ false → is 2 (toldAs a (e .key)) ≡ false
-      → record { asked = told-event e; found = nothingFound; f = 0; places = 0 } ≡ lookOf (told-event e) t r
+      → record { asked = told-event e; found = nothingFound; f = 0; places = 0; sized = sized } ≡ lookOf sized (told-event e) t r
   unfolding lookOf
   look-keyless a q f g = rw (q, f, g)
 
   pub look-end : (found : Found) → e .ask ≡ End → told-found found ≡ find (e .key) t
-      → record { asked = told-event e; found = told-found found; f = 0; places = 0 } ≡ lookOf (told-event e) t r
+      → record { asked = told-event e; found = told-found found; f = 0; places = 0; sized = sized } ≡ lookOf sized (told-event e) t r
   unfolding lookOf
   look-end found q w = rw (q, w)
 
   pub look-known : (found : Found) (n : ℕ) → e .ask ≡ Packet → told-found found ≡ find (e .key) t → found ≡ At n
-      → record { asked = told-event e; found = told-found found; f = 0; places = 0 } ≡ lookOf (told-event e) t r
+      → record { asked = told-event e; found = told-found found; f = 0; places = 0; sized = sized } ≡ lookOf sized (told-event e) t r
   unfolding lookOf
   look-known found n q w a =
       let h : find (e .key) t ≡ record { found = true; reads = n } = sym w ∙ ap told-found a in
@@ -38,7 +38,7 @@ module _ (e : Event) (t : List ℕ) (r : Roster) where
 
   pub look-open : (found : Found) (n f p : ℕ) → e .ask ≡ Packet → told-found found ≡ find (e .key) t → found ≡ Nothing n
       → f ≡ F (e .key) → p ≡ cond (eqb (r .settings .method) 2) (r .held) 0
-      → record { asked = told-event e; found = told-found found; f = f; places = p } ≡ lookOf (told-event e) t r
+      → record { asked = told-event e; found = told-found found; f = f; places = p; sized = sized } ≡ lookOf sized (told-event e) t r
   unfolding lookOf
   look-open found n f p q w a u v =
       let h : find (e .key) t ≡ record { found = false; reads = n } = sym w ∙ ap told-found a in

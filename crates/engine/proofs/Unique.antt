@@ -21,6 +21,7 @@ look-unique l s s′ p q =
       found = found-apart (s .found) (s′ .found) (ap (λ (x : Looked). x .found) e) i;
       f = e i .f;
       places = e i .places;
+      sized = e i .sized;
     }
 
 pub record SameBegun (o o′ : Outcome) (t t′ : List ℕ) : Type 0 where

@@ -13,7 +13,7 @@ use Rattle.ranking.specs.declared.Pick.{Pick}
 use Rattle.roster.specs.declared.Roster.{Roster}
 use Rattle.roster.specs.Roster.{sound, heldServers, workingSet, placeOf, addedHorizon, removedHorizon}
 use Rattle.roster.proofs.Form.{sound-parts}
-use Rattle.event.specs.Event.{Asked, eventIn}
+use Rattle.event.specs.Event.{Asked, refusedBy, eventIn}
 use Rattle.event.specs.Event.{told as told-event}
 use Rattle.table.specs.Table.{Finding, find, room}
 use Rattle.table.specs.Table.{told as told-found}
@@ -42,6 +42,12 @@ module _ (e : Asked) (st : State) where
   unfolding judged barred effect packet
   pick-known found p q a = rw a
 
+-- nothing that is found matters to a refused event
+refused-free : (n : ℕ) (t rows flags : List ℕ) (r : Roster) (found found′ : Finding) (p q : Pick)
+    → judged (refusedBy n) found p (stateWith t rows flags r) ≡ judged (refusedBy n) found′ q (stateWith t rows flags r)
+unfolding judged
+refused-free n t rows flags r found found′ p q = refl
+
 -- the ring's entry matters only under method 2
 pick-spot : (f : ℕ) (s s′ : Entry) (st : State) → eqb (st .roster .settings .method) 2 ≡ false → pickBy f s st ≡ pickBy f s′ st
 unfolding pickBy
@@ -49,12 +55,12 @@ pick-spot f s s′ st n = rw n
 
 -- so what a look finds is enough
 module _ (e : Asked) (t rows flags : List ℕ) (r : Roster) (ring : List Entry) where
-  looked-enough : let st = stateWith t rows flags r in
-      let l = lookOf e t r in
+  looked-enough : (sized : Bool) → let st = stateWith t rows flags r in
+      let l = lookOf sized e t r in
       judged e (l .found) (pickBy (l .f) (entryRead (l .places) (l .f) ring) st) st
       ≡ judged e (find (e .key) t) (pickBy (F (e .key)) (entryRead (r .held) (F (e .key)) ring) st) st
   unfolding lookOf
-  looked-enough =
+  looked-enough sized =
       let st = stateWith t rows flags r in
       both
       (is 1 e)
@@ -77,6 +83,24 @@ module _ (e : Asked) (t rows flags : List ℕ) (r : Roster) (ring : List Entry) 
       (is 2 e)
       (λ q. rw (p, q) (pick-free e st (find (e .key) t) _ _ p))
       (λ q. rw (p, q) (found-free e st _ (find (e .key) t) _ p q ∙ pick-free e st (find (e .key) t) _ _ p)))
+
+-- and it needs no more where the event is refused by 9 or 11, whatever was found
+module _ (sized rosterSound : Bool) (e : Asked) (t rows flags : List ℕ) (r : Roster) (ring : List Entry) where
+  looked-admitted : let st = stateWith t rows flags r in
+      let l = lookOf sized e t r in
+      let a = admitted sized rosterSound e in
+      judged (admitted (l .sized) rosterSound (l .asked)) (l .found) (pickBy (l .f) (entryRead (l .places) (l .f) ring) st) st
+      ≡ judged a (find (a .key) t) (pickBy (F (a .key)) (entryRead (r .held) (F (a .key)) ring) st) st
+  unfolding lookOf admitted
+  looked-admitted =
+      both
+      sized
+      (
+      λ a. both
+      rosterSound
+      (λ b. rw (a, b) (looked-enough e t rows flags r ring true))
+      (λ b. rw (a, b) (refused-free 11 t rows flags r _ _ _ _)))
+      (λ a. rw a (refused-free 9 t rows flags r _ _ _ _))
 
 -- a refused event draws no ring: where the ring is drawn, every buffer has its length
 redraw-sized : (sized rosterSound : Bool) (e : Asked) (found : Finding) (p : Pick) (st : State)
@@ -212,21 +236,21 @@ module _ (bytes t rows flags : List ℕ) (ring : List Entry) (r : Roster) where
   -- THE WHOLE: what the four calls of `event` promise, together
   pub whole-event : (seen : Seen) (spot : Entry) (out : Reaction) (t′ rows′ flags′ : List ℕ) (ring′ : List Entry)
       → length (out .roster .servers) ≡ 64
-      → seenAs seen ≡ lookOf admittedHere t r
+      → seenAs seen ≡ lookOf (sizesRight (length t) (length rows) (length flags) (length ring)) (eventIn bytes) t r
       → spot ≡ entryRead (seen .places) (seen .f) ring
       → reacted out t′ rows′ flags′
-      ≡ judged (told-event (seen .event)) (told-found (seen .found)) (pickBy (seen .f) spot (stateWith t rows flags r)) (stateWith t rows flags r)
+      ≡ judged (admitted (seen .sized) (sound r) (told-event (seen .event))) (told-found (seen .found)) (pickBy (seen .f) spot (stateWith t rows flags r)) (stateWith t rows flags r)
       → ring′ ≡ redrawn (out .redraw) (out .roster) ring
       → done (record { reply = out .reply; roster = out .roster }) t′ rows′ flags′ ring′ ≡ eventOf bytes (stateWith t rows flags r) ring
   unfolding eventOf lookOf
   whole-event seen spot out t′ rows′ flags′ ring′ n look read react draw =
       let st = stateWith t rows flags r in
-      let seen-is : judged (seenAs seen .asked) (seenAs seen .found) (pickBy (seenAs seen .f) (entryRead (seenAs seen .places) (seenAs seen .f) ring) st) st ≡ judgedHere =
-      ap (λ (l : Looked). judged (l .asked) (l .found) (pickBy (l .f) (entryRead (l .places) (l .f) ring) st) st) look
-      ∙ looked-enough admittedHere t rows flags r ring in
+      let seen-is : judged (admitted (seenAs seen .sized) (sound r) (seenAs seen .asked)) (seenAs seen .found) (pickBy (seenAs seen .f) (entryRead (seenAs seen .places) (seenAs seen .f) ring) st) st ≡ judgedHere =
+      ap (λ (l : Looked). judged (admitted (l .sized) (sound r) (l .asked)) (l .found) (pickBy (l .f) (entryRead (l .places) (l .f) ring) st) st) look
+      ∙ looked-admitted (sizesRight (length t) (length rows) (length flags) (length ring)) (sound r) (eventIn bytes) t rows flags r ring in
       let change : reacted out t′ rows′ flags′ ≡ judgedHere =
       react
-      ∙ ap (λ (x : Entry). judged (told-event (seen .event)) (told-found (seen .found)) (pickBy (seen .f) x st) st) read
+      ∙ ap (λ (x : Entry). judged (admitted (seen .sized) (sound r) (told-event (seen .event))) (told-found (seen .found)) (pickBy (seen .f) x st) st) read
       ∙ seen-is in
       let drawing : out .redraw ≡ true → judgedHere .redraw ≡ true = λ q. ap (λ (c : Change). c .redraw) (sym change) ∙ q in
       let sized : out .redraw ≡ true → (length ring ≡ 64) × (out .roster .held ≤ 64) =

@@ -18,7 +18,7 @@ ghost use Rattle.table.specs.Table.{told as told-found};
 ghost use Rattle.roster.specs.Roster.{sound as sound-of, heldServers, workingSet};
 ghost use Rattle.ringplan.specs.Plan.{planned};
 ghost use Rattle.rules.specs.Rules.{sizesRight, admitted, judged, pickBy};
-ghost use Rattle.engine.specs.Looking.{lookOf, seenAs, begun, beginOf};
+ghost use Rattle.engine.specs.Looking.{lookOf, seenAs, asksPacket, admittedAsk, begun, beginOf};
 ghost use Rattle.answers.specs.Reacting.{stateWith, reacted};
 
 // What a look at an event record finds before the ring is read.
@@ -27,9 +27,10 @@ pub struct Seen {
     pub found: Found,
     pub f: u32,
     pub places: usize,
+    pub sized: bool,
 }
 
-// Reads the event record, tests what can be refused at once, and looks for the key's record.
+// Reads the event record, tests the lengths of what is lent, and looks for the key's record.
 pub fn look(
     bytes: &[u8],
     table: &[u8],
@@ -38,13 +39,14 @@ pub fn look(
     ring: usize,
     roster: Roster,
 ) -> Seen
-    ensures { λ s. ⌜ seenAs s ≡ lookOf (admitted (sizesRight (length (now (table .entry))) rows flags ring) (sound-of roster) (eventIn (now (bytes .entry)))) (now (table .entry)) roster ⌝ }
+    ensures { λ s. ⌜ seenAs s ≡ lookOf (sizesRight (length (now (table .entry))) rows flags ring) (eventIn (now (bytes .entry))) (now (table .entry)) roster ⌝ }
 {
-    let event = looking::admit(bytes, table.len(), rows, flags, ring, roster);
-    looking::seek(event, table, roster)
+    let sized = looking::sizes_right(table.len(), rows, flags, ring);
+    let event = event::read(bytes);
+    looking::seek(event, table, sized, roster)
 }
 
-// Does what the event asks to table, rows and flags; `spot` is the ring's entry that was read for it.
+// Does what the event asks to table, rows and flags, or refuses it; `spot` is the ring's entry that was read for it.
 pub fn react(
     seen: Seen,
     spot: Entry,
@@ -54,23 +56,59 @@ pub fn react(
     roster: Roster,
 ) -> Reaction
     ensures { λ v. ⌜ reacted v (now (table .exit)) (now (rows .exit)) (now (flags .exit))
-        ≡ judged (told-event (seen .event)) (told-found (seen .found))
+        ≡ judged (admitted (seen .sized) (sound-of roster) (told-event (seen .event))) (told-found (seen .found))
         (pickBy (seen .f) spot (stateWith (now (table .entry)) (now (rows .entry)) (now (flags .entry)) roster))
         (stateWith (now (table .entry)) (now (rows .entry)) (now (flags .entry)) roster) ⌝ }
 {
     let event = seen.event;
-    let ask = event.ask;
+    let asked = event.ask;
+    let ask = admit(asked, seen.sized, roster);
     let key = event.key;
     let found = seen.found;
     match ask {
-        Ask::Packet => packets::packet(key, found, seen.f, spot, table, rows, flags, roster),
-        Ask::End => changes::end(found, table, roster),
+        Ask::Packet => {
+            let reply = packets::packet(key, found, seen.f, spot, table, rows, flags, roster);
+            answers::stays(reply, roster)
+        }
+        Ask::End => answers::stays(changes::end(found, table), roster),
         Ask::AddWorking(server) => changes::add_working(server, rows, flags, roster),
         Ask::RemoveWorking(server) => changes::remove_working(server, table, rows, flags, roster),
         Ask::AddHorizon(server) => changes::add_horizon(server, rows, flags, roster),
         Ask::RemoveHorizon(server) => changes::remove_horizon(server, rows, flags, roster),
         Ask::Configure(settings) => changes::configure(settings, table, rows, flags, roster),
         Ask::Refused(number) => answers::refused(number, roster),
+    }
+}
+
+// What is asked, or its refusal by 9 or 11. A packet's roster is tested in `packets::packet`, where its lists are lent.
+fn admit(ask: Ask, sized: bool, roster: Roster) -> Ask
+    ensures { λ a. ⌜ a ≡ admittedAsk sized (sound-of roster) ask ⌝ }
+{
+    if !sized {
+        return Ask::Refused(9);
+    }
+    if is_packet(ask) {
+        return ask;
+    }
+    if !roster::sound(roster) {
+        return Ask::Refused(11);
+    }
+    ask
+}
+
+// Whether a packet is asked for.
+fn is_packet(ask: Ask) -> bool
+    ensures { λ v. ⌜ v ≡ asksPacket ask ⌝ }
+{
+    match ask {
+        Ask::Packet => true,
+        Ask::End => false,
+        Ask::AddWorking(_) => false,
+        Ask::RemoveWorking(_) => false,
+        Ask::AddHorizon(_) => false,
+        Ask::RemoveHorizon(_) => false,
+        Ask::Configure(_) => false,
+        Ask::Refused(_) => false,
     }
 }
 

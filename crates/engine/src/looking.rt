@@ -5,10 +5,8 @@ use event::Event;
 use roster::Roster;
 use table::Found;
 ghost use mathlib.Core.Path.{_≡_};
-ghost use lib.ListN.{length};
-ghost use Rattle.event.specs.Event.{eventIn, told as told-event, refusedBy};
-ghost use Rattle.roster.specs.Roster.{sound as sound-of};
-ghost use Rattle.rules.specs.Rules.{sizesRight, admitted};
+ghost use Rattle.event.specs.Event.{told as told-event};
+ghost use Rattle.rules.specs.Rules.{sizesRight};
 ghost use mathlib.Core.Bool.{cond};
 ghost use lib.Dec.{eqb};
 ghost use Rattle.event.specs.declared.Ask.the-variants.{Packet};
@@ -36,44 +34,14 @@ pub(crate) fn sizes_right(table: usize, rows: usize, flags: usize, ring: usize) 
     ring == 64
 }
 
-// An event that is refused by a number.
-fn turned_away(number: u8) -> Event
-    ensures { λ e. ⌜ told-event e ≡ refusedBy number ⌝ }
-{
-    Event {
-        ask: Ask::Refused(number),
-        key: [0; 13],
-    }
-}
-
-// The event of a record, or its refusal: by 9, by 11, and then by the record's own 1 or 2.
-pub(crate) fn admit(
-    bytes: &[u8],
-    table: usize,
-    rows: usize,
-    flags: usize,
-    ring: usize,
-    roster: Roster,
-) -> Event
-    ensures { λ e. ⌜ told-event e ≡ admitted (sizesRight table rows flags ring) (sound-of roster) (eventIn (now (bytes .entry))) ⌝ }
-{
-    if !sizes_right(table, rows, flags, ring) {
-        return turned_away(9);
-    }
-    if !roster::sound(roster) {
-        return turned_away(11);
-    }
-    event::read(bytes)
-}
-
 // Looks for the key's record, where the event has a key; for a packet without one also F of the key,
 // and how many ring entries are to be searched.
-pub(crate) fn seek(event: Event, table: &[u8], roster: Roster) -> Seen
-    ensures { λ s. ⌜ seenAs s ≡ lookOf (told-event event) (now (table .entry)) roster ⌝ }
+pub(crate) fn seek(event: Event, table: &[u8], sized: bool, roster: Roster) -> Seen
+    ensures { λ s. ⌜ seenAs s ≡ lookOf sized (told-event event) (now (table .entry)) roster ⌝ }
 {
     let ask = event.ask;
     match ask {
-        Ask::Packet => seek_packet(event, table, roster),
+        Ask::Packet => seek_packet(event, table, sized, roster),
         Ask::End => {
             let key = event.key;
             let found = table::find(table, key);
@@ -82,21 +50,22 @@ pub(crate) fn seek(event: Event, table: &[u8], roster: Roster) -> Seen
                 found: found,
                 f: 0,
                 places: 0,
+                sized: sized,
             }
         }
-        Ask::AddWorking(_) => seek_nothing(event),
-        Ask::RemoveWorking(_) => seek_nothing(event),
-        Ask::AddHorizon(_) => seek_nothing(event),
-        Ask::RemoveHorizon(_) => seek_nothing(event),
-        Ask::Configure(_) => seek_nothing(event),
-        Ask::Refused(_) => seek_nothing(event),
+        Ask::AddWorking(_) => seek_nothing(event, sized),
+        Ask::RemoveWorking(_) => seek_nothing(event, sized),
+        Ask::AddHorizon(_) => seek_nothing(event, sized),
+        Ask::RemoveHorizon(_) => seek_nothing(event, sized),
+        Ask::Configure(_) => seek_nothing(event, sized),
+        Ask::Refused(_) => seek_nothing(event, sized),
     }
 }
 
 // A packet: its key's record, or F of the key.
-fn seek_packet(event: Event, table: &[u8], roster: Roster) -> Seen
+fn seek_packet(event: Event, table: &[u8], sized: bool, roster: Roster) -> Seen
     requires { ⌜ event .ask ≡ Packet ⌝ }
-    ensures { λ s. ⌜ seenAs s ≡ lookOf (told-event event) (now (table .entry)) roster ⌝ }
+    ensures { λ s. ⌜ seenAs s ≡ lookOf sized (told-event event) (now (table .entry)) roster ⌝ }
 {
     let key = event.key;
     let found = table::find(table, key);
@@ -106,12 +75,14 @@ fn seek_packet(event: Event, table: &[u8], roster: Roster) -> Seen
             found: found,
             f: 0,
             places: 0,
+            sized: sized,
         },
         Found::Nothing(_) => Seen {
             event: event,
             found: found,
             f: hash::fnv(&key),
             places: places_read(roster),
+            sized: sized,
         },
     }
 }
@@ -127,13 +98,14 @@ fn places_read(roster: Roster) -> usize
 }
 
 // An event without a key looks for nothing.
-fn seek_nothing(event: Event) -> Seen
-    ensures { λ s. ⌜ seenAs s ≡ record { asked = told-event event; found = nothingFound; f = 0; places = 0 } ⌝ }
+fn seek_nothing(event: Event, sized: bool) -> Seen
+    ensures { λ s. ⌜ seenAs s ≡ record { asked = told-event event; found = nothingFound; f = 0; places = 0; sized = sized } ⌝ }
 {
     Seen {
         event: event,
         found: Found::Nothing(0),
         f: 0,
         places: 0,
+        sized: sized,
     }
 }

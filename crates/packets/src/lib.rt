@@ -1,24 +1,27 @@
-// Packets: the key's record, or else what the method in force gives.
-use answers::Reaction;
+// Packets: the key's record, or else what the method in force gives. The roster's two lists are copied once, in
+// `packet`, and lent from there.
 use ranking::Pick;
 use ring::Entry;
 use roster::Roster;
+use rules::Reply;
+use settings::Settings;
 use table::Found;
 ghost use mathlib.Core.Path.{_≡_};
+ghost use mathlib.Core.Bool.{true, cond};
 ghost use mathlib.Core.List.{List};
 ghost use Prim.Native.Nat.{ℕ, _%_, _^_};
 ghost use Rattle.sets.specs.Sets.{inState};
 ghost use Rattle.ranking.specs.Ranking.{picked};
 ghost use Rattle.ranking.specs.Methods.{hrw as hrw-at};
-ghost use Rattle.roster.specs.Roster.{workingSet, horizon};
+ghost use Rattle.roster.specs.Roster.{sound as sound-of, workingSet, horizon};
 ghost use Rattle.event.specs.Event.{asksKey};
 ghost use Rattle.table.specs.Table.{Finding, told as told-found};
 ghost use Rattle.ringplan.specs.Plan.{some};
-ghost use Rattle.rules.specs.Rules.{judged, pickBy};
-ghost use Rattle.answers.specs.Reacting.{stateWith, reacted};
-ghost use Rattle.packets.specs.Led.{led};
+ghost use Rattle.rules.specs.Rules.{admitted, judged, pickBy, packet as packet-done};
+ghost use Rattle.answers.specs.Reacting.{stateWith, replied};
+ghost use Rattle.packets.specs.Lent.{Lent};
 
-// A packet: refused with 7 where no server works.
+// A packet: refused with 11 where the roster hasn't its stated form.
 pub fn packet(
     key: [u8; 13],
     found: Found,
@@ -28,88 +31,155 @@ pub fn packet(
     rows: &[u32],
     flags: &[u8],
     r: Roster,
-) -> Reaction
-    ensures { λ v. ⌜ reacted v (now (table .exit)) (now (rows .entry)) (now (flags .entry))
-        ≡ judged (asksKey 1 key) (told-found found) (pickBy f spot (stateWith (now (table .entry)) (now (rows .entry)) (now (flags .entry)) r)) (stateWith (now (table .entry)) (now (rows .entry)) (now (flags .entry)) r) ⌝ }
+) -> Reply
+    ensures { λ v. ⌜ replied v (now (table .exit)) (now (rows .entry)) (now (flags .entry)) r
+        ≡ judged (admitted true (sound-of r) (asksKey 1 key)) (told-found found) (pickBy f spot (stateWith (now (table .entry)) (now (rows .entry)) (now (flags .entry)) r)) (stateWith (now (table .entry)) (now (rows .entry)) (now (flags .entry)) r) ⌝ }
 {
-    if !any_works(r) {
-        return answers::refused(7, r);
+    let held = r.held;
+    let servers = r.servers;
+    let states = r.states;
+    if !roster::parts::sound(&servers, &states, held, r.settings) {
+        return Reply::Refused(11);
     }
+    lead(
+        key,
+        found,
+        f,
+        spot,
+        table,
+        rows,
+        flags,
+        &servers[..held],
+        &states[..held],
+        r.settings,
+    )
+}
+
+// A packet that meets a sound roster, of which it is lent the servers held and their states.
+fn lead(
+    key: [u8; 13],
+    found: Found,
+    f: u32,
+    spot: Entry,
+    table: &mut [u8],
+    rows: &[u32],
+    flags: &[u8],
+    servers: &[u32],
+    states: &[u8],
+    settings: Settings,
+) -> Reply
+    ensures { λ v. ⌜ ((r : Roster) → Lent r (now (servers .entry)) (now (states .entry)) → r .settings ≡ settings
+        → replied v (now (table .exit)) (now (rows .entry)) (now (flags .entry)) r
+        ≡ judged (asksKey 1 key) (told-found found) (pickBy f spot (stateWith (now (table .entry)) (now (rows .entry)) (now (flags .entry)) r)) (stateWith (now (table .entry)) (now (rows .entry)) (now (flags .entry)) r)) ⌝ }
+{
     match found {
-        Found::At(place) => known(place, table, r),
+        Found::At(place) => known(place, table, servers, states),
         Found::Nothing(used) => {
-            let pick = pick_by(f, spot, rows, flags, r);
-            fresh(key, used, pick, table, r)
+            if settings.method == 3 {
+                let pick = rows::read(rows, flags, settings.rows, f);
+                return fresh(key, used, pick, table, servers, states);
+            }
+            if settings.method == 2 {
+                let pick = Pick {
+                    server: spot.server,
+                    flag: spot.track != 0,
+                };
+                return fresh(key, used, pick, table, servers, states);
+            }
+            chosen(key, used, f, table, servers, states)
         }
     }
 }
 
-// A key with a record: its server, or refusal 8.
-fn known(place: usize, table: &[u8], r: Roster) -> Reaction
-    ensures { λ v. ⌜ ((key : List ℕ) (pick : Pick) (rows flags : List ℕ)
-        → reacted v (now (table .entry)) rows flags ≡ led key (told-found (Found.At place)) pick (stateWith (now (table .entry)) rows flags r)) ⌝ }
+// A key with a record: its server, or a refusal.
+fn known(place: usize, table: &[u8], servers: &[u32], states: &[u8]) -> Reply
+    ensures { λ v. ⌜ ((key : List ℕ) (pick : Pick) (rows flags : List ℕ) (r : Roster) → Lent r (now (servers .entry)) (now (states .entry))
+        → replied v (now (table .entry)) rows flags r ≡ judged (asksKey 1 key) (told-found (Found.At place)) pick (stateWith (now (table .entry)) rows flags r)) ⌝ }
 {
     let server = table::server_at(table, place);
-    if roster::state_of(r, server) != 1 {
-        return answers::refused(8, r);
+    if roster::parts::state_in(servers, states, server) != 1 {
+        return idle(servers, states);
     }
-    answers::accepted(server, 1, place, r)
+    Reply::Accepted {
+        server: server,
+        mark: 1,
+        reads: place,
+    }
 }
 
-// A key without a record: the server picked, recorded where that is unsafe and there is room, or refusal 8.
-fn fresh(key: [u8; 13], used: usize, pick: Pick, table: &mut [u8], r: Roster) -> Reaction
-    ensures { λ v. ⌜ ((rows flags : List ℕ)
-        → reacted v (now (table .exit)) rows flags ≡ led key (told-found (Found.Nothing used)) pick (stateWith (now (table .entry)) rows flags r)) ⌝ }
+// A key without a record, whose server was read from a row or from the ring: refused unless it works.
+fn fresh(
+    key: [u8; 13],
+    used: usize,
+    pick: Pick,
+    table: &mut [u8],
+    servers: &[u32],
+    states: &[u8],
+) -> Reply
+    ensures { λ v. ⌜ ((rows flags : List ℕ) (r : Roster) → Lent r (now (servers .entry)) (now (states .entry))
+        → replied v (now (table .exit)) rows flags r ≡ judged (asksKey 1 key) (told-found (Found.Nothing used)) pick (stateWith (now (table .entry)) rows flags r)) ⌝ }
+{
+    if roster::parts::state_in(servers, states, pick.server) != 1 {
+        return idle(servers, states);
+    }
+    settle(key, used, pick, table)
+}
+
+// A key without a record under HRW: its choice is one of the working servers, and 0 where none works.
+fn chosen(
+    key: [u8; 13],
+    used: usize,
+    f: u32,
+    table: &mut [u8],
+    servers: &[u32],
+    states: &[u8],
+) -> Reply
+    ensures { λ v. ⌜ ((rows flags : List ℕ) (r : Roster) → Lent r (now (servers .entry)) (now (states .entry))
+        → replied v (now (table .exit)) rows flags r ≡ judged (asksKey 1 key) (told-found (Found.Nothing used)) (picked (hrw-at (f % 2 ^ 31)) (workingSet r) (horizon r)) (stateWith (now (table .entry)) rows flags r)) ⌝ }
+{
+    let pick = hrw::pick(servers, states, f % 2147483648);
+    if pick.server == 0 {
+        return Reply::Refused(7);
+    }
+    settle(key, used, pick, table)
+}
+
+// The server picked, which works: it is recorded where it is unsafe and there is room.
+fn settle(key: [u8; 13], used: usize, pick: Pick, table: &mut [u8]) -> Reply
+    ensures { λ v. ⌜ ((rows flags : List ℕ) (r : Roster)
+        → replied v (now (table .exit)) rows flags r ≡ packet-done key (told-found (Found.Nothing used)) pick (stateWith (now (table .entry)) rows flags r)) ⌝ }
 {
     let server = pick.server;
-    if roster::state_of(r, server) != 1 {
-        return answers::refused(8, r);
-    }
     if !pick.flag {
-        return answers::accepted(server, 2, used, r);
-    }
-    if table.len() / 20 <= used {
-        return answers::accepted(server, 4, used, r);
-    }
-    table::write_after(table, used, key, server);
-    answers::accepted(server, 3, used, r)
-}
-
-// What the method in force gives: read from the row, from the ring's entry, or computed by HRW.
-fn pick_by(f: u32, spot: Entry, rows: &[u32], flags: &[u8], r: Roster) -> Pick
-    ensures { λ p. ⌜ ((t : List ℕ) → p ≡ pickBy f spot (stateWith t (now (rows .entry)) (now (flags .entry)) r)) ⌝ }
-{
-    let settings = r.settings;
-    if settings.method == 3 {
-        return rows::read(rows, flags, settings.rows, f);
-    }
-    if settings.method == 2 {
-        return Pick {
-            server: spot.server,
-            flag: spot.track != 0,
+        return Reply::Accepted {
+            server: server,
+            mark: 2,
+            reads: used,
         };
     }
-    by_weight(f, r)
+    if table.len() / 20 <= used {
+        return Reply::Accepted {
+            server: server,
+            mark: 4,
+            reads: used,
+        };
+    }
+    table::write_after(table, used, key, server);
+    Reply::Accepted {
+        server: server,
+        mark: 3,
+        reads: used,
+    }
 }
 
-// HRW over the roster at F's digest.
-fn by_weight(f: u32, r: Roster) -> Pick
-    ensures { λ p. ⌜ p ≡ picked (hrw-at (f % 2 ^ 31)) (workingSet r) (horizon r) ⌝ }
+// The refusal of a packet whose server doesn't work: 7 where none does, else 8.
+fn idle(servers: &[u32], states: &[u8]) -> Reply
+    ensures { λ v. ⌜ v ≡ Reply.Refused (cond (some (inState 1 (now (servers .entry)) (now (states .entry)))) 8 7) ⌝ }
 {
-    let n = roster::in_use(r.held);
-    let servers = r.servers;
-    let states = r.states;
-    hrw::pick(&servers[..n], &states[..n], f % 2147483648)
-}
-
-// Whether some server works.
-fn any_works(r: Roster) -> bool
-    ensures { λ v. ⌜ v ≡ some (workingSet r) ⌝ }
-{
-    let n = roster::in_use(r.held);
-    let servers = r.servers;
-    let states = r.states;
-    some_in_work(&servers[..n], &states[..n])
+    if some_in_work(servers, states) {
+        return Reply::Refused(8);
+    }
+    Reply::Refused(7)
 }
 
 // Whether some of the servers is in state 1.

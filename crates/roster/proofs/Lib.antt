@@ -12,3 +12,4 @@ pub mod Sets
 pub mod SetChanges
 pub mod Bounds
 pub mod Unique
+pub mod Lent

@@ -1,9 +1,10 @@
 -- Each public function's promise fits one answer only.
 use Prim.Native.Nat.{ℕ, min}
 use mathlib.Core.Bool.{Bool}
+use mathlib.Core.List.{List}
 use mathlib.Core.Path.{_≡_, sym, _∙_}
 use Rattle.roster.specs.declared.Roster.{Roster}
-use Rattle.roster.specs.Roster.{sound, stateOf, addedWorking, removedWorking, addedHorizon, removedHorizon, emptyRoster}
+use Rattle.roster.specs.Roster.{sound, stateOf, stateIn, addedWorking, removedWorking, addedHorizon, removedHorizon, emptyRoster}
 
 pub empty-unique : (a b : Roster) → a ≡ emptyRoster → b ≡ emptyRoster → a ≡ b
 empty-unique a b p q = cc
@@ -28,3 +29,10 @@ remove-horizon-unique r s a b p q = cc
 
 pub in-use-unique : (held a b : ℕ) → a ≡ min held 64 → b ≡ min held 64 → a ≡ b
 in-use-unique held a b p q = p ∙ sym q
+
+-- of the parts of a roster, lent
+pub parts-sound-unique : (d a b : Bool) → a ≡ d → b ≡ d → a ≡ b
+parts-sound-unique d a b p q = p ∙ sym q
+
+pub state-in-unique : (s : ℕ) (ss xs : List ℕ) (a b : ℕ) → a ≡ stateIn s ss xs → b ≡ stateIn s ss xs → a ≡ b
+state-in-unique s ss xs a b p q = p ∙ sym q

@@ -5,6 +5,7 @@ ghost use Prim.Native.Nat.{min};
 use settings::Settings;
 
 mod lists;
+pub mod parts;
 
 // At most 64 servers in rising order, each working (1) or in the horizon (2); unused places zero.
 pub struct Roster {

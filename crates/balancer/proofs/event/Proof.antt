@@ -300,11 +300,9 @@ module _ {M : Type 1} (𝓤 : URA M) (H : Heap 𝓤) (A : Atoms 𝓤) (W : Given
       split ! $ move ! (1 ∷ []) $
       use1 W (some (λ (zs₁ : Unit {0} × (Unit {0} × (Unit {0} × (Unit {0} × (Unit {0} × (Unit {0} × Unit {0})))))). ‵
       (lasts look-at.ended (κ₀, ((ν₁ ∷ []), tt)) (args-look ν₁ δ₁) zs₁) ⊛ raw
-      (fact 𝓤 (seenAs r₁ ≡ lookOf (admitted (sizesRight (length table) (length rows) (length flags) (length es)) (sound-of roster)
-      (eventIn bytes)) table roster)))) (id⊢ 𝓤 _) $ pick ! (λ zs₁.
+      (fact 𝓤 (seenAs r₁ ≡ lookOf (sizesRight (length table) (length rows) (length flags) (length es)) (eventIn bytes) table roster)))) (id⊢ 𝓤 _) $ pick ! (λ zs₁.
       split ! $ move ! (1 ∷ []) $
-      heard ! (seenAs r₁ ≡ lookOf (admitted (sizesRight (length table) (length rows) (length flags) (length es)) (sound-of roster)
-      (eventIn bytes)) table roster) (λ e₁.
+      heard ! (seenAs r₁ ≡ lookOf (sizesRight (length table) (length rows) (length flags) (length es)) (eventIn bytes) table roster) (λ e₁.
       drop ! $ split ! $ split ! $ move ! (1 ∷ []) $ split ! $ move ! (1 ∷ []) $ drop ! $ move ! (2 ∷ []) $
       peeks ! Se.the-row (Is Se.the-row) (shows 𝓤 H A Se.the-row) r₁ (v₁ ∷ []) (λ is₁.
       land ! (here !) (init ! 47 refl (LL.lawful Se.the-type SeL.the-laws 𝓤 H A W .typed r₁ _ is₁ .0)) $
@@ -357,10 +355,10 @@ module _ {M : Type 1} (𝓤 : URA M) (H : Heap 𝓤) (A : Atoms 𝓤) (W : Given
       split ! $ move ! (1 ∷ []) $
       use1 W (some (λ (zs₃ : Unit {0} × (Unit {0} × (List ℕ × (List ℕ × (List ℕ × (Unit {0} × Unit {0})))))). ‵
       (lasts react.ended (κ₁, (κ₂, (κ₃, tt))) (args-react r₁ (seen-is r₁ v₁ is₁) r₂ (entry-is r₂ v₂ is₂)) zs₃) ⊛ raw
-      (fact 𝓤 (reacted r (zs₃ .1 .1 .0) (zs₃ .1 .1 .1 .0) (zs₃ .1 .1 .1 .1 .0) ≡ judged (told-event (r₁ .event)) (told-found (r₁ .found))
+      (fact 𝓤 (reacted r (zs₃ .1 .1 .0) (zs₃ .1 .1 .1 .0) (zs₃ .1 .1 .1 .1 .0) ≡ judged (admitted (r₁ .sized) (sound-of roster) (told-event (r₁ .event))) (told-found (r₁ .found))
       (pickBy (r₁ .f) r₂ (stateWith table rows flags roster)) (stateWith table rows flags roster))))) (id⊢ 𝓤 _) $ pick ! (λ zs₃.
       split ! $ move ! (1 ∷ []) $
-      heard ! (reacted r (zs₃ .1 .1 .0) (zs₃ .1 .1 .1 .0) (zs₃ .1 .1 .1 .1 .0) ≡ judged (told-event (r₁ .event)) (told-found (r₁ .found))
+      heard ! (reacted r (zs₃ .1 .1 .0) (zs₃ .1 .1 .1 .0) (zs₃ .1 .1 .1 .1 .0) ≡ judged (admitted (r₁ .sized) (sound-of roster) (told-event (r₁ .event))) (told-found (r₁ .found))
       (pickBy (r₁ .f) r₂ (stateWith table rows flags roster)) (stateWith table rows flags roster)) (λ e₃.
       fsplit ! $ drop ! $ fsplit ! $ drop ! $ fsplit ! $ fsplit ! $ move ! (1 ∷ []) $ feqL ! (λ n₁. move ! (1 ∷ []) $ fsplit ! $ fsplit ! $
       move ! (1 ∷ []) $ feqL ! (λ n₂. move ! (1 ∷ []) $ fsplit ! $ fsplit ! $ move ! (1 ∷ []) $ feqL ! (λ n₃. move ! (1 ∷ []) $ drop ! $

@@ -1,5 +1,4 @@
--- `engine::end` meets its contract.
-use mathlib.Core.Path.{_∙_}
+-- `changes::end` meets its contract.
 use Rattle.changes.proofs.ByKind.{end-5, end-6}
 use borrow.Author.Needs.{needs}
 use Rattle.changes.proofs.end.Statement.{statement}
@@ -11,42 +10,27 @@ enum-known-found c = search needs
 remove-requires : tie.Need-remove-requires
 remove-requires c κs = search needs
 
-accepted-requires : tie.Need-accepted-requires
-accepted-requires c κs = search needs
-
 enum-known-found-2 : tie.Need-enum-known-found-2
 enum-known-found-2 c = search needs
-
-accepted-requires-2 : tie.Need-accepted-requires-2
-accepted-requires-2 c κs = search needs
 
 same-length : tie.Need-same-length
 same-length c = search needs
 
 returns : tie.Need-returns
 returns c =
-    λ key pick rows flags.
-    let m = c .before .before .before in
+    λ key pick rows flags r.
+    let m = c .before .before in
     let x = m .before .before .before .found .given in
     let p = m .before .before .before .before .before .before .args in
-    rw (x .1) (c .accepted .ensures _ (p .table .now) rows flags ∙ rw (m .remove .ensures) (end-5 key (p .table .now) rows flags pick (p .r) (x .0 .0)))
+    rw (x .1, m .remove .ensures) (end-5 key (p .table .now) rows flags pick r (x .0 .0))
 
 returns-2 : tie.Need-returns-2
 returns-2 c =
-    λ key pick rows flags.
-    let x = c .before .before .found2 .given in
-    let p = c .before .before .before .before .before .args in
-    rw (x .1) (c .accepted2 .ensures _ (p .table .now) rows flags ∙ end-6 key (p .table .now) rows flags pick (p .r) (x .0 .0))
+    λ key pick rows flags r.
+    let x = c .before .found2 .given in
+    let p = c .before .before .before .before .args in
+    rw (x .1) (end-6 key (p .table .now) rows flags pick r (x .0 .0))
 
 pub end-spec : {M : Type 1} → statement M
 end-spec =
-    tie.close
-    (tie.spec
-    enum-known-found
-    remove-requires
-    accepted-requires
-    enum-known-found-2
-    accepted-requires-2
-    same-length
-    returns
-    returns-2)
+    tie.close (tie.spec enum-known-found remove-requires enum-known-found-2 same-length returns returns-2)

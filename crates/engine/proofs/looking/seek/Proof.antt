@@ -60,43 +60,43 @@ returns-2 : tie.Need-returns-2
 returns-2 c =
     let x = c .before .before .enum-told2 .given in
     let p = c .before .before .before .before .before .args in
-    look-end (p .event) (p .table .now) (p .roster) (c .find .result) (x .1) (c .find .ensures)
+    look-end (p .event) (p .table .now) (p .sized) (p .roster) (c .find .result) (x .1) (c .find .ensures)
 
 returns-3 : tie.Need-returns-3
 returns-3 c =
     let x = c .before .enum-told3 .given in
     let p = c .before .before .before .before .args in
-    c .seek-nothing .ensures ∙ look-keyless (p .event) (p .table .now) (p .roster) _ (x .1) refl refl
+    c .seek-nothing .ensures ∙ look-keyless (p .event) (p .table .now) (p .sized) (p .roster) _ (x .1) refl refl
 
 returns-4 : tie.Need-returns-4
 returns-4 c =
     let x = c .before .enum-told4 .given in
     let p = c .before .before .before .before .args in
-    c .seek-nothing2 .ensures ∙ look-keyless (p .event) (p .table .now) (p .roster) _ (x .1) refl refl
+    c .seek-nothing2 .ensures ∙ look-keyless (p .event) (p .table .now) (p .sized) (p .roster) _ (x .1) refl refl
 
 returns-5 : tie.Need-returns-5
 returns-5 c =
     let x = c .before .enum-told5 .given in
     let p = c .before .before .before .before .args in
-    c .seek-nothing3 .ensures ∙ look-keyless (p .event) (p .table .now) (p .roster) _ (x .1) refl refl
+    c .seek-nothing3 .ensures ∙ look-keyless (p .event) (p .table .now) (p .sized) (p .roster) _ (x .1) refl refl
 
 returns-6 : tie.Need-returns-6
 returns-6 c =
     let x = c .before .enum-told6 .given in
     let p = c .before .before .before .before .args in
-    c .seek-nothing4 .ensures ∙ look-keyless (p .event) (p .table .now) (p .roster) _ (x .1) refl refl
+    c .seek-nothing4 .ensures ∙ look-keyless (p .event) (p .table .now) (p .sized) (p .roster) _ (x .1) refl refl
 
 returns-7 : tie.Need-returns-7
 returns-7 c =
     let x = c .before .enum-told7 .given in
     let p = c .before .before .before .before .args in
-    c .seek-nothing5 .ensures ∙ look-keyless (p .event) (p .table .now) (p .roster) _ (x .1) refl refl
+    c .seek-nothing5 .ensures ∙ look-keyless (p .event) (p .table .now) (p .sized) (p .roster) _ (x .1) refl refl
 
 returns-8 : tie.Need-returns-8
 returns-8 c =
     let x = c .before .enum-told8 .given in
     let p = c .before .before .before .before .args in
-    c .seek-nothing6 .ensures ∙ look-keyless (p .event) (p .table .now) (p .roster) _ (x .1) refl refl
+    c .seek-nothing6 .ensures ∙ look-keyless (p .event) (p .table .now) (p .sized) (p .roster) _ (x .1) refl refl
 
 pub seek-spec : {M : Type 1} → statement M
 seek-spec =

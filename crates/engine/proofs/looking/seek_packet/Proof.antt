@@ -26,13 +26,13 @@ returns : tie.Need-returns
 returns c =
     let h = c .before .before in
     let s = h .before .before .before in
-    look-known (s .args .event) (s .args .table .now) (s .args .roster) (h .find .result) _ (s .pre) (h .find .ensures) (c .enum-told .given .1)
+    look-known (s .args .event) (s .args .table .now) (s .args .sized) (s .args .roster) (h .find .result) _ (s .pre) (h .find .ensures) (c .enum-told .given .1)
 
 returns-2 : tie.Need-returns-2
 returns-2 c =
     let h = c .before .before .before .before .before in
     let s = h .before .before .before in
-    look-open (s .args .event) (s .args .table .now) (s .args .roster) (h .find .result) _ _ _ (s .pre) (h .find .ensures) (c .before .before .before .enum-told2 .given .1) (c .before .fnv .ensures) (c .places-read .ensures)
+    look-open (s .args .event) (s .args .table .now) (s .args .sized) (s .args .roster) (h .find .result) _ _ _ (s .pre) (h .find .ensures) (c .before .before .before .enum-told2 .given .1) (c .before .fnv .ensures) (c .places-read .ensures)
 
 pub seek-packet-spec : {M : Type 1} → statement M
 seek-packet-spec =
