@@ -2,7 +2,7 @@
  * two of places, linear probing, at most half of them taken), and the horizon doesn't exist. The same generator; the word
  * RECORDS says how many sessions there are. A server that leaves work takes its records with it. The last line says how
  * many bytes the table takes. */
-#include "engine.h"
+#include "parts.h"
 #include "load.h"
 
 typedef struct { uint8_t key[13], state; uint32_t server; } Place;       /* state: 0 never taken, 1 taken, 2 given up */
