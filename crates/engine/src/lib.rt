@@ -138,7 +138,7 @@ pub fn plan_of(r: Roster) -> [Entry; 64]
     ensures { λ p. ⌜ p ≡ planned (heldServers r) (workingSet r) ⌝ }
 {
     let n = roster::in_use(r.held);
-    let servers = r.servers;
     let states = r.states;
+    let servers: &[u32] = &r.servers;
     ringplan::plan(&servers[..n], &states[..n])
 }

@@ -16,10 +16,12 @@ use Rattle.ranking.proofs.Choice.{choice-member}
 use Rattle.ranking.proofs.Instances.{hrw-strict}
 use Rattle.roster.specs.declared.Roster.{Roster}
 use Rattle.roster.specs.Roster.{sound, stateOf, stateIn, workingSet, horizon}
+use Rattle.roster.proofs.Form.{sound-parts}
 use Rattle.roster.proofs.Sets.{working-state, working-nonzero}
 use Rattle.event.specs.Event.{asksKey}
 use Rattle.table.specs.Table.{Finding, serverAt, writtenAfter}
 use Rattle.settings.specs.declared.Settings.{Settings}
+use Rattle.settings.specs.Settings.{valid}
 use Rattle.rows.specs.Rows.{rowRead}
 use Rattle.ring.specs.declared.Entry.{Entry}
 use Rattle.ring.specs.Ring.{gives}
@@ -138,20 +140,32 @@ unfolding packet
 known-1 key t rows flags pick r place = refl
 
 -- ---- what the method in force gives
-module _ (f : ℕ) (spot : Entry) (t rows flags : List ℕ) (r : Roster) (c : Settings) (s : r .settings ≡ c) where
-  pub pick-row : (p : Pick) → c .method ≡ 3 → p ≡ rowRead (c .rows) f (record { servers = rows; flags = flags })
+second : (c : Settings) → valid c ≡ true → eqb (c .method) 1 ≡ false → eqb (c .method) 3 ≡ false → eqb (c .method) 2 ≡ true
+unfolding valid
+second c v one three =
+    both (eqb (c .rows) 0) (λ z. rw (three, z, one) at v) (λ z. clash (rw (three, z) at v) refl)
+
+module _ (f : ℕ) (spot : Entry) (t rows flags : List ℕ) (r : Roster) (so : sound r ≡ true) (c : Settings) (s : r .settings ≡ c) where
+  pub pick-read : (p : Pick) → (c .method ≡ 1 → ⊥)
+      → p ≡ cond (eqb (c .method) 3) (rowRead (c .rows) f (record { servers = rows; flags = flags })) (gives spot)
       → p ≡ pickBy f spot (stateWith t rows flags r)
   unfolding pickBy
-  pick-row p m e = rw (s, eq-eqb (c .method) 3 m) e
+  pick-read p n e =
+      let v : valid c ≡ true = rw s at (sound-parts r so .settings-valid) in
+      both
+      (eqb (c .method) 3)
+      (λ m. rw (s, m) (rw m at e))
+      (λ m. rw (s, m, second c v (ne-eqb (c .method) 1 n) m) (rw m at e))
 
-  module _ (n : c .method ≡ 3 → ⊥) where
-    pub pick-ring : c .method ≡ 2 → gives spot ≡ pickBy f spot (stateWith t rows flags r)
-    unfolding pickBy
-    pick-ring m = rw (s, ne-eqb (c .method) 3 n, eq-eqb (c .method) 2 m)
+  pub pick-hrw : (p : Pick) (ss xs : List ℕ) → Lent r ss xs → c .method ≡ 1
+      → p ≡ picked (hrw (f % 2 ^ 31)) (inState 1 ss xs) (inState 2 ss xs) → p ≡ pickBy f spot (stateWith t rows flags r)
+  unfolding pickBy
+  pick-hrw p ss xs l m e = rw (s, m, l .servers, l .states) e
 
-    pub pick-hrw : (c .method ≡ 2 → ⊥) → picked (hrw (f % 2 ^ 31)) (workingSet r) (horizon r) ≡ pickBy f spot (stateWith t rows flags r)
-    unfolding pickBy
-    pick-hrw m = rw (s, ne-eqb (c .method) 3 n, ne-eqb (c .method) 2 m)
+-- the pick over the lent lists is the one over the roster's sets
+pub best-of : (d : ℕ) (r : Roster) (ss xs : List ℕ) (p : Pick) → Lent r ss xs → p ≡ picked (hrw d) (inState 1 ss xs) (inState 2 ss xs)
+    → p ≡ picked (hrw d) (workingSet r) (horizon r)
+best-of d r ss xs p l e = rw (l .servers, l .states) e
 
 -- ---- the roster's two lists have 64 places
 pub lent-sound : (r : Roster) → length (r .servers) ≡ 64 → length (r .states) ≡ 64

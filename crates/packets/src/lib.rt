@@ -9,11 +9,12 @@ use table::Found;
 ghost use mathlib.Core.Path.{_≡_};
 ghost use mathlib.Core.Bool.{true, cond};
 ghost use mathlib.Core.List.{List};
-ghost use Prim.Native.Nat.{ℕ, _%_, _^_};
+ghost use Prim.Native.Nat.{ℕ};
 ghost use Rattle.sets.specs.Sets.{inState};
-ghost use Rattle.ranking.specs.Ranking.{picked};
-ghost use Rattle.ranking.specs.Methods.{hrw as hrw-at};
-ghost use Rattle.roster.specs.Roster.{sound as sound-of, workingSet, horizon};
+ghost use lib.Dec.{eqb};
+ghost use Rattle.rows.specs.Rows.{rowRead};
+ghost use Rattle.ring.specs.Ring.{gives};
+ghost use Rattle.roster.specs.Roster.{sound as sound-of};
 ghost use Rattle.event.specs.Event.{asksKey};
 ghost use Rattle.table.specs.Table.{Finding, told as told-found};
 ghost use Rattle.ringplan.specs.Plan.{some};
@@ -55,7 +56,8 @@ pub fn packet(
     )
 }
 
-// A packet that meets a sound roster, of which it is lent the servers held and their states.
+// A packet that meets a sound roster, of which it is lent the servers held and their states. Where the key has no record,
+// the server that HRW chooses is one of those that work, and 0 where none does; one that was read is refused unless it works.
 fn lead(
     key: [u8; 13],
     found: Found,
@@ -75,19 +77,32 @@ fn lead(
     match found {
         Found::At(place) => known(place, table, servers, states),
         Found::Nothing(used) => {
-            if settings.method == 3 {
-                let pick = rows::read(rows, flags, settings.rows, f);
-                return fresh(key, used, pick, table, servers, states);
+            if settings.method == 1 {
+                let best = hrw::pick(servers, states, f % 2147483648);
+                if best.server == 0 {
+                    return Reply::Refused(7);
+                }
+                return settle(key, used, best, table);
             }
-            if settings.method == 2 {
-                let pick = Pick {
-                    server: spot.server,
-                    flag: spot.track != 0,
-                };
-                return fresh(key, used, pick, table, servers, states);
+            let pick = read_pick(f, spot, rows, flags, settings);
+            if roster::parts::state_in(servers, states, pick.server) != 1 {
+                return idle(servers, states);
             }
-            chosen(key, used, f, table, servers, states)
+            settle(key, used, pick, table)
         }
+    }
+}
+
+// What methods 2 and 3 read: the row, or the ring's entry.
+fn read_pick(f: u32, spot: Entry, rows: &[u32], flags: &[u8], settings: Settings) -> Pick
+    ensures { λ p. ⌜ p ≡ cond (eqb (settings .method) 3) (rowRead (settings .rows) f (record { servers = now (rows .entry); flags = now (flags .entry) })) (gives spot) ⌝ }
+{
+    if settings.method == 3 {
+        return rows::read(rows, flags, settings.rows, f);
+    }
+    Pick {
+        server: spot.server,
+        flag: spot.track != 0,
     }
 }
 
@@ -105,43 +120,6 @@ fn known(place: usize, table: &[u8], servers: &[u32], states: &[u8]) -> Reply
         mark: 1,
         reads: place,
     }
-}
-
-// A key without a record, whose server was read from a row or from the ring: refused unless it works.
-fn fresh(
-    key: [u8; 13],
-    used: usize,
-    pick: Pick,
-    table: &mut [u8],
-    servers: &[u32],
-    states: &[u8],
-) -> Reply
-    ensures { λ v. ⌜ ((rows flags : List ℕ) (r : Roster) → Lent r (now (servers .entry)) (now (states .entry))
-        → replied v (now (table .exit)) rows flags r ≡ judged (asksKey 1 key) (told-found (Found.Nothing used)) pick (stateWith (now (table .entry)) rows flags r)) ⌝ }
-{
-    if roster::parts::state_in(servers, states, pick.server) != 1 {
-        return idle(servers, states);
-    }
-    settle(key, used, pick, table)
-}
-
-// A key without a record under HRW: its choice is one of the working servers, and 0 where none works.
-fn chosen(
-    key: [u8; 13],
-    used: usize,
-    f: u32,
-    table: &mut [u8],
-    servers: &[u32],
-    states: &[u8],
-) -> Reply
-    ensures { λ v. ⌜ ((rows flags : List ℕ) (r : Roster) → Lent r (now (servers .entry)) (now (states .entry))
-        → replied v (now (table .exit)) rows flags r ≡ judged (asksKey 1 key) (told-found (Found.Nothing used)) (picked (hrw-at (f % 2 ^ 31)) (workingSet r) (horizon r)) (stateWith (now (table .entry)) rows flags r)) ⌝ }
-{
-    let pick = hrw::pick(servers, states, f % 2147483648);
-    if pick.server == 0 {
-        return Reply::Refused(7);
-    }
-    settle(key, used, pick, table)
 }
 
 // The server picked, which works: it is recorded where it is unsafe and there is room.

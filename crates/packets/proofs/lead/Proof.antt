@@ -1,11 +1,15 @@
 -- `packets::lead` meets its contract.
+use Prim.Native.Nat.{_%_, _^_}
 use mathlib.Core.Bool.{true, false}
-use mathlib.Core.Path.{ap, _∙_}
+use mathlib.Core.Path.{_≡_, sym, ap, _∙_}
 use Rattle.ranking.specs.declared.Pick.{Pick}
+use Rattle.ranking.specs.Ranking.{picked}
+use Rattle.ranking.specs.Methods.{hrw}
+use Rattle.roster.specs.Roster.{workingSet, horizon}
 use Rattle.event.specs.Event.{asksKey}
-use Rattle.rules.specs.Rules.{judged, pickBy}
+use Rattle.rules.specs.Rules.{judged, pickBy, packet}
 use Rattle.answers.specs.Reacting.{stateWith}
-use Rattle.packets.proofs.OfPackets.{pick-row, pick-ring, pick-hrw}
+use Rattle.packets.proofs.OfPackets.{led-nowhere, led-on, chosen-none, chosen-on, pick-read, pick-hrw, best-of}
 use borrow.Author.Needs.{needs}
 use Rattle.packets.proofs.lead.Statement.{statement}
 use Rattle.packets.proofs.lead.Tie as tie
@@ -19,84 +23,106 @@ known-requires c κs = search needs
 enum-known-found-2 : tie.Need-enum-known-found-2
 enum-known-found-2 c = search needs
 
-read-requires : tie.Need-read-requires
-read-requires c κs = search needs
-
-fresh-requires : tie.Need-fresh-requires
-fresh-requires c κs = search needs
-
-same-length : tie.Need-same-length
-same-length c = search needs
+pick-requires : tie.Need-pick-requires
+pick-requires c κs = search needs
 
 returns : tie.Need-returns
 returns c =
     λ r l s.
-    let h = c .before .before in
-    let d = h .before .before in
-    let b = d .before in
-    let g = b .before .before .before in
+    let k = c .before .before in
+    let g = k .before .before .before .before in
     let x = g .found2 .given in
-    let m = g .before in
-    let p = m .before .before .before .before .before .before .args in
+    let p = g .before .before .before .before .before .before .before .args in
     let st = stateWith (p .table .now) (p .rows .now) (p .flags .now) r in
-    rw (x .1) (h .fresh .ensures (p .rows .now) (p .flags .now) r l
-    ∙ ap (λ (q : Pick). judged (asksKey 1 (p .key)) (record { found = false; reads = x .0 .0 }) q st)
-    (pick-row (p .f) (p .spot) (p .table .now) (p .rows .now) (p .flags .now) r (p .settings) s (d .read .result) (b .if1 .taken) (d .read .ensures)))
+    let q = best-of (p .f % 2 ^ 31) r (p .servers .now) (p .states .now) (k .pick .result) l (k .pick .ensures) in
+    let h : picked (hrw (p .f % 2 ^ 31)) (workingSet r) (horizon r) ≡ pickBy (p .f) (p .spot) st =
+    sym q ∙ pick-hrw (p .f) (p .spot) (p .table .now) (p .rows .now) (p .flags .now) r (l .sound) (p .settings) s (k .pick .result) (p .servers .now) (p .states .now) l (k .before .if1 .taken) (k .pick .ensures) in
+    rw (x .1) (chosen-none (p .key) (p .table .now) (p .rows .now) (p .flags .now) (p .f % 2 ^ 31) r (l .sound) (x .0 .0) (ap (λ (y : Pick). y .server) (sym q) ∙ c .if2 .taken)
+    ∙ ap (λ (y : Pick). judged (asksKey 1 (p .key)) (record { found = false; reads = x .0 .0 }) y st) h)
 
-fresh-requires-2 : tie.Need-fresh-requires-2
-fresh-requires-2 c κs = search needs
+settle-requires : tie.Need-settle-requires
+settle-requires c κs = search needs
 
-same-length-2 : tie.Need-same-length-2
-same-length-2 c = search needs
+same-length : tie.Need-same-length
+same-length c = search needs
 
 returns-2 : tie.Need-returns-2
 returns-2 c =
     λ r l s.
-    let h = c .before .before in
-    let b = h .before .before .before in
-    let e = b .before .before in
-    let g = e .before .before .before in
+    let w = c .before .before in
+    let e = w .before .before in
+    let k = e .before .before in
+    let g = k .before .before .before .before in
     let x = g .found2 .given in
-    let m = g .before in
-    let p = m .before .before .before .before .before .before .args in
+    let p = g .before .before .before .before .before .before .before .args in
     let st = stateWith (p .table .now) (p .rows .now) (p .flags .now) r in
-    rw (x .1) (h .fresh2 .ensures (p .rows .now) (p .flags .now) r l
-    ∙ ap (λ (q : Pick). judged (asksKey 1 (p .key)) (record { found = false; reads = x .0 .0 }) q st)
-    (pick-ring (p .f) (p .spot) (p .table .now) (p .rows .now) (p .flags .now) r (p .settings) s (e .if1 .left) (b .if2 .taken)))
+    let q = best-of (p .f % 2 ^ 31) r (p .servers .now) (p .states .now) (k .pick .result) l (k .pick .ensures) in
+    let h : picked (hrw (p .f % 2 ^ 31)) (workingSet r) (horizon r) ≡ pickBy (p .f) (p .spot) st =
+    sym q ∙ pick-hrw (p .f) (p .spot) (p .table .now) (p .rows .now) (p .flags .now) r (l .sound) (p .settings) s (k .pick .result) (p .servers .now) (p .states .now) l (k .before .if1 .taken) (k .pick .ensures) in
+    rw (x .1) (w .settle .ensures (p .rows .now) (p .flags .now) r
+    ∙ ap (λ (y : Pick). packet (p .key) (record { found = false; reads = x .0 .0 }) y st) q
+    ∙ chosen-on (p .key) (p .table .now) (p .rows .now) (p .flags .now) (p .f % 2 ^ 31) r (l .sound) (x .0 .0) (λ z. e .if2 .left (ap (λ (y : Pick). y .server) q ∙ z))
+    ∙ ap (λ (y : Pick). judged (asksKey 1 (p .key)) (record { found = false; reads = x .0 .0 }) y st) h)
 
-chosen-requires : tie.Need-chosen-requires
-chosen-requires c κs = search needs
+read-pick-requires : tie.Need-read-pick-requires
+read-pick-requires c κs = search needs
 
-same-length-3 : tie.Need-same-length-3
-same-length-3 c = search needs
+state-in-requires : tie.Need-state-in-requires
+state-in-requires c κs = search needs
+
+idle-requires : tie.Need-idle-requires
+idle-requires c κs = search needs
 
 returns-3 : tie.Need-returns-3
 returns-3 c =
     λ r l s.
-    let g = c .before .before .before in
-    let x = g .found .given in
-    let m = g .before in
-    let p = m .before .before .before .before .before .before .args in
+    let a = c .before .before in
+    let d = a .before in
+    let g = d .before .before .before .before in
+    let x = g .found2 .given in
+    let p = g .before .before .before .before .before .before .before .args in
     let st = stateWith (p .table .now) (p .rows .now) (p .flags .now) r in
-    rw (x .1) (c .known .ensures (p .key) (pickBy (p .f) (p .spot) st) (p .rows .now) (p .flags .now) r l)
+    let h : d .read-pick .result ≡ pickBy (p .f) (p .spot) st =
+    pick-read (p .f) (p .spot) (p .table .now) (p .rows .now) (p .flags .now) r (l .sound) (p .settings) s (d .read-pick .result) (d .before .if1 .left) (d .read-pick .ensures) in
+    rw (x .1) (led-nowhere (p .key) (p .table .now) (p .rows .now) (p .flags .now) (d .read-pick .result) r (record { found = false; reads = x .0 .0 }) (p .servers .now) (p .states .now) l _ (c .idle .ensures)
+    (rw (a .state-in .ensures) at (c .before .if3 .taken))
+    ∙ ap (λ (y : Pick). judged (asksKey 1 (p .key)) (record { found = false; reads = x .0 .0 }) y st) h)
 
-same-length-4 : tie.Need-same-length-4
-same-length-4 c = search needs
+settle-requires-2 : tie.Need-settle-requires-2
+settle-requires-2 c κs = search needs
+
+same-length-2 : tie.Need-same-length-2
+same-length-2 c = search needs
 
 returns-4 : tie.Need-returns-4
 returns-4 c =
     λ r l s.
-    let h = c .before .before in
-    let b = h .before .before in
-    let e = b .before .before in
-    let g = e .before .before .before in
-    let x = g .found2 .given in
-    let m = g .before in
-    let p = m .before .before .before .before .before .before .args in
+    let g = c .before .before .before in
+    let x = g .found .given in
+    let p = g .before .before .before .before .before .before .before .args in
     let st = stateWith (p .table .now) (p .rows .now) (p .flags .now) r in
-    rw (x .1) (h .chosen .ensures (p .rows .now) (p .flags .now) r l
-    ∙ ap (λ (q : Pick). judged (asksKey 1 (p .key)) (record { found = false; reads = x .0 .0 }) q st)
-    (pick-hrw (p .f) (p .spot) (p .table .now) (p .rows .now) (p .flags .now) r (p .settings) s (e .if1 .left) (b .if2 .left)))
+    rw (x .1) (c .known .ensures (p .key) (pickBy (p .f) (p .spot) st) (p .rows .now) (p .flags .now) r l)
+
+same-length-3 : tie.Need-same-length-3
+same-length-3 c = search needs
+
+returns-5 : tie.Need-returns-5
+returns-5 c =
+    λ r l s.
+    let w = c .before .before in
+    let v = w .before .before in
+    let a = v .before in
+    let d = a .before in
+    let g = d .before .before .before .before in
+    let x = g .found2 .given in
+    let p = g .before .before .before .before .before .before .before .args in
+    let st = stateWith (p .table .now) (p .rows .now) (p .flags .now) r in
+    let h : d .read-pick .result ≡ pickBy (p .f) (p .spot) st =
+    pick-read (p .f) (p .spot) (p .table .now) (p .rows .now) (p .flags .now) r (l .sound) (p .settings) s (d .read-pick .result) (d .before .if1 .left) (d .read-pick .ensures) in
+    rw (x .1) (w .settle2 .ensures (p .rows .now) (p .flags .now) r
+    ∙ led-on (p .key) (p .table .now) (p .rows .now) (p .flags .now) (d .read-pick .result) r (record { found = false; reads = x .0 .0 }) (p .servers .now) (p .states .now) l
+    (rw (a .state-in .ensures) at (v .if3 .left))
+    ∙ ap (λ (y : Pick). judged (asksKey 1 (p .key)) (record { found = false; reads = x .0 .0 }) y st) h)
 
 pub lead-spec : {M : Type 1} → statement M
 lead-spec =
@@ -105,15 +131,17 @@ lead-spec =
     enum-known-found
     known-requires
     enum-known-found-2
-    read-requires
-    fresh-requires
-    same-length
+    pick-requires
     returns
-    fresh-requires-2
-    same-length-2
+    settle-requires
+    same-length
     returns-2
-    chosen-requires
-    same-length-3
+    read-pick-requires
+    state-in-requires
+    idle-requires
     returns-3
-    same-length-4
-    returns-4)
+    settle-requires-2
+    same-length-2
+    returns-4
+    same-length-3
+    returns-5)
