@@ -1,4 +1,4 @@
--- The scans `same` and `allZero` at an index: what is left from there on decides the whole, and the three ways on.
+-- The scan `allZero` at an index: what is left from there on, with what went before it, decides the whole. And what the two tests mean.
 use Prim.Native.Nat.{ℕ, zero, suc, _+_, _<_, _≤_}
 use mathlib.Core.Bool.{Bool, true, false, cond}
 use mathlib.Core.List.{List, [], _∷_}
@@ -12,30 +12,6 @@ use lib.Seq.{drop-cons}
 use borrow.Author.Tests.{eq-eqb, ne-eqb, eqb-true}
 use Rattle.sets.proofs.Cases.{both, clash}
 use Rattle.spans.specs.Spans.{same, allZero}
-
-pub same-apart : (a b : List ℕ) → (length a ≡ length b → ⊥) → same a b ≡ false
-unfolding same
-same-apart [] [] n = absurd (n refl)
-same-apart [] (y ∷ ys) n = refl
-same-apart (x ∷ xs) [] n = refl
-same-apart (x ∷ xs) (y ∷ ys) n =
-    elim (eqb x y) as (λ t. cond t (same xs ys) false ≡ false) [ true ↦ same-apart xs ys (λ e. n (ap suc e)) | false ↦ refl ]
-
-module _ (a b : List ℕ) (i : ℕ) (W : Bool) (so : same (drop i a) (drop i b) ≡ W) where
-  same-step : i < length a → i < length b
-      → same (drop i a) (drop i b) ≡ cond (eqb (getD a i 0) (getD b i 0)) (same (drop (i + 1) a) (drop (i + 1) b)) false
-  unfolding same
-  same-step h k = rw (add-one, drop-cons a i 0 h, drop-cons b i 0 k)
-
-  pub same-differ : i < length a → i < length b → (getD a i 0 ≡ getD b i 0 → ⊥) → false ≡ W
-  same-differ h k n = sym (rw (ne-eqb _ _ n) at (same-step h k)) ∙ so
-
-  pub same-more : i < length a → i < length b → getD a i 0 ≡ getD b i 0 → same (drop (i + 1) a) (drop (i + 1) b) ≡ W
-  same-more h k e = sym (rw (eq-eqb _ _ e) at (same-step h k)) ∙ so
-
-  pub same-end : length a ≤ i → length b ≤ i → true ≡ W
-  unfolding same
-  same-end h k = rw (drop-of-length-le a {i = i} h, drop-of-length-le b {i = i} k) at so
 
 -- a running `or` is zero exactly where all that went into it is
 or-none : (a b : ℕ) → eqb (bitOr a b) 0 ≡ cond (eqb a 0) (eqb b 0) false

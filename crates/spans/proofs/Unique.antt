@@ -3,10 +3,7 @@ use Prim.Native.Nat.{ℕ}
 use mathlib.Core.Bool.{Bool}
 use mathlib.Core.List.{List}
 use mathlib.Core.Path.{_≡_}
-use Rattle.spans.specs.Spans.{same, allZero, zeroed, closed}
-
-pub same-unique : (a b : List ℕ) (x y : Bool) → x ≡ same a b → y ≡ same a b → x ≡ y
-same-unique a b x y p q = cc
+use Rattle.spans.specs.Spans.{allZero, zeroed, closed}
 
 pub all-zero-unique : (s : List ℕ) (x y : Bool) → x ≡ allZero s → y ≡ allZero s → x ≡ y
 all-zero-unique s x y p q = cc

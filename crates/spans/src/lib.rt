@@ -3,24 +3,7 @@ ghost use mathlib.Core.Path.{_≡_};
 ghost use mathlib.Core.List.{_++_};
 ghost use Prim.Native.Nat.{_≤_, _-_};
 ghost use lib.ListN.{length, drop};
-ghost use Rattle.spans.specs.Spans.{same as same-of, allZero, zeroed, closed};
-
-// Whether two spans hold the same bytes.
-pub fn same(a: &[u8], b: &[u8]) -> bool
-    ensures { λ r. ⌜ r ≡ same-of (now (a .entry)) (now (b .entry)) ⌝ }
-{
-    if a.len() != b.len() {
-        return false;
-    }
-    let mut i = 0;
-    while i < a.len() {
-        if a[i] != b[i] {
-            return false;
-        }
-        i += 1;
-    }
-    true
-}
+ghost use Rattle.spans.specs.Spans.{allZero, zeroed, closed};
 
 // Whether every byte of a span is zero. All are read, with no early end: so they go many at a time.
 pub fn all_zero(s: &[u8]) -> bool
