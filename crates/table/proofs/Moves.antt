@@ -4,8 +4,8 @@ use mathlib.Core.List.{List, [], _∷_, _++_, append-nil}
 use mathlib.Core.Path.{_≡_, refl, sym, ap, _∙_}
 use native.Mathlib.Numerals.{add-one}
 use native.Mathlib.Omega.{arith}
-use lib.ListN.{length, getD, take, drop, set, replicate, length-append, length-drop, drop-of-length-le}
-use lib.Seq.{sets, sets-eq, paste, paste-suc, length-paste-head, getD-append-add, getD-drop, drop-append-add, drop-drop, take-at}
+use lib.ListN.{length, getD, take, drop, set, replicate, length-append, length-drop, take-append-drop, drop-of-length-le}
+use lib.Seq.{sets, sets-eq, paste, paste-suc, length-paste-head, getD-append-add, getD-drop, drop-append-add, drop-drop, take-at, take-add}
 use borrow.Rule.Slice.PartMut.{midOf, putMid, mid-len, post-is}
 use borrow.Author.Tests.{lt-ltb, le-ltb}
 use Rattle.bigendian.specs.BigEndian.{bytes4}
@@ -27,6 +27,10 @@ still-at front t n j e h =
     ∙ getD-append-add front (drop n t) (j - n) 0
     ∙ getD-drop n t (j - n) 0
     ∙ ap (λ (m : ℕ). getD t m 0) r
+
+-- bytes copied to where they stand
+pub copy-self : (t : List ℕ) (at n : ℕ) → paste t at (drop at t) n ≡ t
+copy-self t at n = rw (← take-add at n t) (take-append-drop (at + n) t)
 
 -- one more byte of a record copied towards the front
 pub copy-turn : (t : List ℕ) (from to k : ℕ) → to ≤ from → from + k < length t

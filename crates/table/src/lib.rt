@@ -178,11 +178,14 @@ fn close_gap(table: &mut [u8], i: usize, n: usize)
     spans::close(&mut table[a..e], 20);
 }
 
-// Copies the record with index i, counted from 0, to index w, which is no later.
+// Copies the record with index i, counted from 0, to index w, which is no later; one that stands there already stays.
 fn keep(table: &mut [u8], i: usize, w: usize)
     requires { ⌜ (w ≤ i) × (i * 20 + 20 ≤ length (now table)) ⌝ }
     ensures { λ _. ⌜ now (table .exit) ≡ paste (now (table .entry)) (w * 20) (drop (i * 20) (now (table .entry))) 20 ⌝ }
 {
+    if w == i {
+        return;
+    }
     let from = i * 20;
     let to = w * 20;
     let mut k = 0;

@@ -1,11 +1,11 @@
--- `table::keep` meets its contract. In the loop, the bytes passed are pasted to their new place.
+-- `table::keep` meets its contract: a record that stands where it should stays. In the loop, the bytes passed are pasted to their new place.
 use Prim.Native.Nat.{_*_, _≤_, _-_}
-use mathlib.Core.Path.{_≡_, refl}
+use mathlib.Core.Path.{_≡_, refl, sym}
 use native.Mathlib.Omega.{arith}
 use lib.ListN.{length, drop}
 use lib.Seq.{paste, paste-zero}
+use Rattle.table.proofs.Moves.{copy-self, copy-turn}
 use borrow.Author.Needs.{needs}
-use Rattle.table.proofs.Moves.{copy-turn}
 use Rattle.table.proofs.keep.Statement.{statement}
 use Rattle.table.proofs.keep.Tie as tie
 
@@ -15,6 +15,12 @@ Inv-loop table₀ i w from to k₀ table k = (k ≤ 20) × ((length table ≡ le
 abbrev μ-loop : tie.MeasureT-loop
 μ-loop table₀ i w from to k₀ table k = 20 - k
 
+returns : tie.Need-returns Inv-loop μ-loop
+returns c =
+    let p = c .before .args in
+    let e : p .w ≡ p .i = c .if1 .taken in
+    rw e (sym (copy-self (p .table .now) (p .i * 20) 20))
+
 mul-from : tie.Need-mul-from Inv-loop μ-loop
 mul-from c = search needs
 
@@ -23,8 +29,8 @@ mul-to c = search needs
 
 loop-holds : tie.Need-loop-holds Inv-loop μ-loop
 loop-holds c =
-    let t = c .args .table .now in
-    (search needs, (refl, paste-zero t (c .args .w * 20) (drop (c .args .i * 20) t)))
+    let t = c .before .args .table .now in
+    (search needs, (refl, paste-zero t (c .before .args .w * 20) (drop (c .before .args .i * 20) t)))
 
 add-table : tie.Need-add-table Inv-loop μ-loop
 add-table c = search needs
@@ -47,14 +53,14 @@ loop-less c = search needs
 loop-again : tie.Need-loop-again Inv-loop μ-loop
 loop-again c =
     let l = c .before .before in
-    let p = l .before .args in
+    let p = l .before .before .args in
     (search needs, (search needs, rw (l .loop .inv .1 .1) (copy-turn (p .table .now) (p .i * 20) (p .w * 20) (l .loop .k) (omega arith) (omega arith))))
 
 same-length : tie.Need-same-length Inv-loop μ-loop
 same-length c = search needs
 
-returns : tie.Need-returns Inv-loop μ-loop
-returns c =
+returns-2 : tie.Need-returns-2 Inv-loop μ-loop
+returns-2 c =
     let l = c .before in
     let e : l .loop .k ≡ 20 = omega arith in
     rw e at (l .loop .inv .1 .1)
@@ -65,6 +71,7 @@ keep-spec =
     (tie.spec
     Inv-loop
     μ-loop
+    returns
     mul-from
     mul-to
     loop-holds
@@ -76,4 +83,4 @@ keep-spec =
     loop-less
     loop-again
     same-length
-    returns)
+    returns-2)
