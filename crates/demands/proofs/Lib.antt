@@ -3,8 +3,6 @@ pub mod SteadyEvents
 pub mod SteadyChanges
 pub mod SteadyKept
 pub mod Steady
-pub mod Examples
-pub mod ExamplesProvisos
 pub mod Packets
 pub mod Others
 pub mod Obeys

@@ -13,8 +13,8 @@ use Rattle.roster.specs.Roster.{working, stateOf, heldServers, workingSet}
 use Rattle.event.specs.Event.{asksKey, eventIn}
 use Rattle.rules.specs.Answer.{accepts}
 use Rattle.histories.specs.Histories.{AllBytes}
 use Rattle.demands.specs.Demands.{Engine, ours, Throughout, Provisos, Demand3}
-use Rattle.demands.proofs.Examples.{computed, lent, enters, leaves, stands, keyed, packetOf, endOf, two, twoAndStandby, other-kind}
+use Rattle.examples.proofs.Examples.{computed, lent, enters, leaves, stands, keyed, packetOf, endOf, two, twoAndStandby, other-kind}
 
 -- the provisos one by one, of an engine, the history before the earlier packet, that packet, its key and mover, and the records between
 module _ (E : Engine) (h : List (List ℕ)) (earlier key : List ℕ) (m : ℕ) (between : List (List ℕ)) where
