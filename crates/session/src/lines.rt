@@ -1,7 +1,9 @@
 // A line for each event: its number, byte 0, refusal, server, mark, reads, and the used records afterwards.
-ghost use Prim.Native.Nat.{_≤_};
+ghost use Prim.Native.Nat.{_-_, _≤_};
 ghost use lib.ListN.{length};
 use crate::blocks;
+use crate::blocks::HALF;
+use crate::blocks::LAST;
 use crate::blocks::Place;
 use rules::Reply;
 
@@ -13,58 +15,54 @@ struct Said {
     reads: u64,
 }
 
-// Puts the line for a record's answer behind the text; none where there was no record. Text that has no room for it is
-// written first, and so is all of it behind the last event that is numbered.
-pub(crate) fn answer(
-    input: &[u8],
-    text: &mut [u8],
-    table: &[u8],
-    number: u64,
-    place: Place,
-    reply: Reply,
-) -> Place {
+// Puts the line for a record's answer behind the text, and finds the next record. Text that has no room for the line is
+// written first.
+pub(crate) fn next(buffer: &mut [u8], table: &[u8], place: Place, reply: Reply) -> Place
+    ensures { λ p. ⌜ (p .left ≤ place .left - 1) × ((p .at ≤ p .to) × (p .to ≤ length (now (buffer .exit)))) ⌝ }
+{
     let at = place.at;
-    if at >= place.to {
-        return place;
+    if at >= buffer.len() {
+        return blocks::nowhere(0);
     }
-    if at >= input.len() {
-        return place;
-    }
-    let from = with_room(text, place.filled);
+    let kind = wide(buffer[at]);
+    let from = with_room(buffer, place.filled);
     let behind = line(
-        text,
+        buffer,
         from,
-        number,
-        wide(input[at]),
+        number(place.left),
+        kind,
         parts(reply),
         table::used(table) as u64,
     );
-    Place {
-        at: at,
-        to: place.to,
-        end: place.end,
-        filled: last(text, number, behind),
-    }
+    blocks::find(
+        buffer,
+        Place {
+            at: at,
+            to: place.to,
+            end: place.end,
+            filled: behind,
+            left: place.left,
+        },
+    )
 }
 
 // Where a line may start: behind the text, or at its front once that is written.
-fn with_room(text: &[u8], filled: usize) -> usize {
-    if text.len() >= 160 {
-        if filled <= text.len() - 160 {
+fn with_room(buffer: &[u8], filled: usize) -> usize {
+    if buffer.len() >= 160 {
+        if filled <= buffer.len() - 160 {
             return filled;
         }
     }
-    blocks::write(text, filled);
-    0
+    blocks::write(buffer, filled);
+    HALF
 }
 
-// All is written behind the last event that is numbered.
-fn last(text: &[u8], number: u64, filled: usize) -> usize {
-    if number < 1000000000000 {
-        return filled;
+// The number of the event from which on so many are to come.
+fn number(left: u64) -> u64 {
+    if left > LAST {
+        return 0;
     }
-    blocks::write(text, filled);
-    0
+    LAST - left + 1
 }
 
 // A reply in the numbers that a line has.
@@ -99,22 +97,22 @@ fn wide(x: u8) -> u64 {
 }
 
 // Puts a line at an index, and says where it ends.
-fn line(text: &mut [u8], from: usize, number: u64, kind: u64, said: Said, used: u64) -> usize {
-    let a = put(text, from, number, b' ');
-    let b = put(text, a, kind, b' ');
-    let c = put(text, b, said.refusal, b' ');
-    let d = put(text, c, said.server, b' ');
-    let e = put(text, d, said.mark, b' ');
-    let f = put(text, e, said.reads, b' ');
-    put(text, f, used, b'\n')
+fn line(buffer: &mut [u8], from: usize, number: u64, kind: u64, said: Said, used: u64) -> usize {
+    let a = put(buffer, from, number, b' ');
+    let b = put(buffer, a, kind, b' ');
+    let c = put(buffer, b, said.refusal, b' ');
+    let d = put(buffer, c, said.server, b' ');
+    let e = put(buffer, d, said.mark, b' ');
+    let f = put(buffer, e, said.reads, b' ');
+    put(buffer, f, used, b'\n')
 }
 
 // Puts a number and a byte at an index, where there is room for 21 bytes, and says where they end.
-fn put(text: &mut [u8], at: usize, number: u64, behind: u8) -> usize {
-    if text.len() < 21 {
+fn put(buffer: &mut [u8], at: usize, number: u64, behind: u8) -> usize {
+    if buffer.len() < 21 {
         return at;
     }
-    if at > text.len() - 21 {
+    if at > buffer.len() - 21 {
         return at;
     }
     let mut digits = [0u8; 20];
@@ -124,9 +122,9 @@ fn put(text: &mut [u8], at: usize, number: u64, behind: u8) -> usize {
     }
     let mut i = 0;
     while i < n {
-        text[at + i] = digits[i];
+        buffer[at + i] = digits[i];
         i += 1;
     }
-    text[at + n] = behind;
+    buffer[at + n] = behind;
     at + n + 1
 }

@@ -7,10 +7,13 @@ use Rattle.session.proofs.blocks.fill.Statement.{statement}
 use Rattle.session.proofs.blocks.fill.Tie as tie
 
 abbrev Inv-loop : tie.InvT-loop
-Inv-loop input₀ left have₀ input have = (have ≤ length input) × (length input ≡ length input₀)
+Inv-loop buffer₀ kept have₀ buffer have = (have ≤ 65536) × ((65536 ≤ length buffer) × (length buffer ≡ length buffer₀))
 
 abbrev μ-loop : tie.MeasureT-loop
-μ-loop input₀ left have₀ input have = 16 - have
+μ-loop buffer₀ kept have₀ buffer have = 16 - have
+
+returns : tie.Need-returns Inv-loop μ-loop
+returns c = search needs
 
 loop-holds : tie.Need-loop-holds Inv-loop μ-loop
 loop-holds c = search needs
@@ -30,14 +33,14 @@ loop-again c = search needs
 same-length : tie.Need-same-length Inv-loop μ-loop
 same-length c = search needs
 
-returns : tie.Need-returns Inv-loop μ-loop
-returns c = search needs
+returns-2 : tie.Need-returns-2 Inv-loop μ-loop
+returns-2 c = search needs
 
 same-length-2 : tie.Need-same-length-2 Inv-loop μ-loop
 same-length-2 c = search needs
 
-returns-2 : tie.Need-returns-2 Inv-loop μ-loop
-returns-2 c = search needs
+returns-3 : tie.Need-returns-3 Inv-loop μ-loop
+returns-3 c = search needs
 
 pub fill-spec : {M : Type 1} → statement M
 fill-spec =
@@ -45,12 +48,13 @@ fill-spec =
     (tie.spec
     Inv-loop
     μ-loop
+    returns
     loop-holds
     read-behind-requires
     add-have
     loop-less
     loop-again
     same-length
-    returns
+    returns-2
     same-length-2
-    returns-2)
+    returns-3)

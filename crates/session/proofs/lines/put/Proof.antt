@@ -7,10 +7,10 @@ use Rattle.session.proofs.lines.put.Statement.{statement}
 use Rattle.session.proofs.lines.put.Tie as tie
 
 abbrev Inv-loop : tie.InvT-loop
-Inv-loop text₀ at number behind digits n i₀ text i = (i ≤ n) × ((n ≤ 20) × ((at + 21 ≤ length text) × (length text ≡ length text₀)))
+Inv-loop buffer₀ at number behind digits n i₀ buffer i = (i ≤ n) × ((n ≤ 20) × ((at + 21 ≤ length buffer) × (length buffer ≡ length buffer₀)))
 
 abbrev μ-loop : tie.MeasureT-loop
-μ-loop text₀ at number behind digits n i₀ text i = n - i
+μ-loop buffer₀ at number behind digits n i₀ buffer i = n - i
 
 returns : tie.Need-returns Inv-loop μ-loop
 returns c = search needs
@@ -30,14 +30,14 @@ returns-3 c = search needs
 loop-holds : tie.Need-loop-holds Inv-loop μ-loop
 loop-holds c = search needs
 
-array-read-text : tie.Need-array-read-text Inv-loop μ-loop
-array-read-text c = search needs
+array-read-buffer : tie.Need-array-read-buffer Inv-loop μ-loop
+array-read-buffer c = search needs
 
-add-text : tie.Need-add-text Inv-loop μ-loop
-add-text c = search needs
+add-buffer : tie.Need-add-buffer Inv-loop μ-loop
+add-buffer c = search needs
 
-slice-write-text : tie.Need-slice-write-text Inv-loop μ-loop
-slice-write-text c = search needs
+slice-write-buffer : tie.Need-slice-write-buffer Inv-loop μ-loop
+slice-write-buffer c = search needs
 
 add-i : tie.Need-add-i Inv-loop μ-loop
 add-i c = search needs
@@ -48,11 +48,11 @@ loop-less c = search needs
 loop-again : tie.Need-loop-again Inv-loop μ-loop
 loop-again c = search needs
 
-add-text-2 : tie.Need-add-text-2 Inv-loop μ-loop
-add-text-2 c = search needs
+add-buffer-2 : tie.Need-add-buffer-2 Inv-loop μ-loop
+add-buffer-2 c = search needs
 
-slice-write-text-2 : tie.Need-slice-write-text-2 Inv-loop μ-loop
-slice-write-text-2 c = search needs
+slice-write-buffer-2 : tie.Need-slice-write-buffer-2 Inv-loop μ-loop
+slice-write-buffer-2 c = search needs
 
 add-result : tie.Need-add-result Inv-loop μ-loop
 add-result c = search needs
@@ -78,14 +78,14 @@ put-spec =
     decimal-requires
     returns-3
     loop-holds
-    array-read-text
-    add-text
-    slice-write-text
+    array-read-buffer
+    add-buffer
+    slice-write-buffer
     add-i
     loop-less
     loop-again
-    add-text-2
-    slice-write-text-2
+    add-buffer-2
+    slice-write-buffer-2
     add-result
     add-result-2
     same-length
