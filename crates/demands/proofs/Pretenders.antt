@@ -11,7 +11,8 @@ use Rattle.sets.specs.Sets.{inState}
 use Rattle.sets.proofs.Cases.{clash}
 use Rattle.spans.specs.Spans.{allZero}
 use Rattle.roster.specs.declared.Roster.{Roster}
-use Rattle.roster.specs.Roster.{workingSet, emptyRoster, stateIn, restated, before, putIn, addedHorizon}
+use Rattle.lists.specs.Lists.{before, putIn}
+use Rattle.roster.specs.Roster.{workingSet, emptyRoster, stateIn, restated, addedHorizon}
 use Rattle.event.specs.Event.{allBytes, eventIn, byKind, asksServer}
 use Rattle.table.specs.Table.{used}
 use Rattle.ring.specs.Ring.{blank}

@@ -13,7 +13,8 @@ use Rattle.spans.specs.Spans.{allZero, same}
 use Rattle.hash.specs.Hash.{F, stirAll, stir, weight}
 use Rattle.settings.specs.Settings.{fresh}
 use Rattle.roster.specs.declared.Roster.{Roster}
-use Rattle.roster.specs.Roster.{emptyRoster, stateIn, restated, before, putIn, addedHorizon}
+use Rattle.lists.specs.Lists.{before, putIn}
+use Rattle.roster.specs.Roster.{emptyRoster, stateIn, restated, addedHorizon}
 use Rattle.event.specs.Event.{allBytes, eventIn, byKind, asksServer}
 use Rattle.event.proofs.Reading.{packet-reads}
 use Rattle.table.specs.Table.{Finding, find, findAmong, usedPart, room, newRecord}

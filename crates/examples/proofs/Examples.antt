@@ -13,7 +13,8 @@ use Rattle.spans.specs.Spans.{same, allZero}
 use Rattle.hash.specs.Hash.{stir, stirAll, F, weight}
 use Rattle.ranking.specs.Methods.{inRow}
 use Rattle.settings.specs.Settings.{valid, wellFormed}
-use Rattle.roster.specs.Roster.{working, standby, stateOf, emptyRoster, sound, rising, allStated, stateIn, restated, before, putIn, addedHorizon}
+use Rattle.lists.specs.Lists.{rising, allStated, before, putIn}
+use Rattle.roster.specs.Roster.{working, standby, stateOf, emptyRoster, sound, stateIn, restated, addedHorizon}
 use Rattle.event.specs.Event.{Asked, asksKey, eventIn, byKind, asksServer, asksSettings, allBytes}
 use Rattle.table.specs.Table.{usedTag, firstRecords, recordsOf, usedAmong, usedPart, findAmong, find, serverAt, bytesOf, writtenAfter, packed, without, removed, notNaming, removedServer}
 use Rattle.rows.specs.Rows.{upTo, written, filled, cleared, rowRead}

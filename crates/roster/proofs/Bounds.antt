@@ -12,7 +12,8 @@ use Rattle.sets.specs.Sets.{member, Within}
 use Rattle.sets.proofs.Cases.{both, clash}
 use Rattle.sets.proofs.Members.{member-cases, member-tail, member-head, member-split}
 use Rattle.roster.specs.declared.Roster.{Roster}
-use Rattle.roster.specs.Roster.{heldServers, workingSet, horizon, before, putIn, placeOf, takenOut, addedWorking, removedWorking, addedHorizon, removedHorizon, emptyRoster}
+use Rattle.lists.specs.Lists.{before, putIn, takenOut}
+use Rattle.roster.specs.Roster.{heldServers, workingSet, horizon, placeOf, addedWorking, removedWorking, addedHorizon, removedHorizon, emptyRoster}
 use Rattle.roster.proofs.Sets.{working-within, horizon-within}
 
 -- every member is below b

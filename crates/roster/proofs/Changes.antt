@@ -14,11 +14,14 @@ use Rattle.sets.specs.Sets.{member}
 use Rattle.sets.proofs.Cases.{both, clash}
 use Rattle.spans.specs.Spans.{allZero}
 use Rattle.roster.specs.declared.Roster.{Roster}
-use Rattle.roster.specs.Roster.{sound, allStated, heldServers, heldStates, stateOf, restated, withState, before, putIn, addedWorking, removedWorking, addedHorizon}
-use Rattle.roster.proofs.Scans.{before-le}
-use Rattle.roster.proofs.Rising.{rise-in}
+use Rattle.lists.specs.Lists.{allStated, before, putIn}
+use Rattle.roster.specs.Roster.{sound, heldServers, heldStates, stateOf, restated, withState, addedWorking, removedWorking, addedHorizon}
+use Rattle.lists.proofs.Scans.{before-le}
+use Rattle.lists.proofs.Order.{rise-in}
 use Rattle.roster.proofs.States.{absent-state, state-restated, state-in}
-use Rattle.roster.proofs.Held.{held-putIn, rest-putIn, length-putIn, held-restated, rest-restated, length-restated, stated-in, stated-restated}
+use Rattle.lists.proofs.OfStates.{stated-in}
+use Rattle.lists.proofs.Fronts.{held-putIn, rest-putIn, length-putIn}
+use Rattle.roster.proofs.Held.{held-restated, rest-restated, length-restated, stated-restated}
 use Rattle.roster.proofs.Form.{Sized, sound-parts, parts-sound, held-servers, held-same}
 
 -- a state set

@@ -9,14 +9,15 @@ use lib.Dec.{eqb, leb}
 use lib.ListN.{length, getD, drop}
 use lib.Seq.{length-take-le, getD-take}
 use borrow.Author.Tests.{leb-true, le-leb, eq-eqb, ne-eqb}
-use Rattle.sets.proofs.Cases.{clash}
+use Rattle.sets.proofs.Cases.{both, clash}
 use Rattle.spans.specs.Spans.{allZero}
 use Rattle.settings.specs.declared.Settings.{Settings}
 use Rattle.settings.specs.Settings.{valid}
 use Rattle.roster.specs.declared.Roster.{Roster}
 use Rattle.sets.specs.Sets.{inState}
-use Rattle.roster.specs.Roster.{sound, rising, allStated, heldServers, heldStates, emptyRoster}
-use Rattle.roster.proofs.Scans.{inState-step, inState-end}
+use Rattle.lists.specs.Lists.{rising, allStated}
+use Rattle.roster.specs.Roster.{sound, heldServers, heldStates, emptyRoster}
+use Rattle.lists.proofs.Scans.{inState-step, inState-end}
 
 -- 64 places, as every roster in code has
 pub record Sized (r : Roster) : Type 0 where
@@ -72,6 +73,14 @@ sound-parts r so =
 pub parts-sound : (r : Roster) → SoundParts r → sound r ≡ true
 unfolding sound
 parts-sound r p = rw (le-leb (r .held) 64 (p .few), p .rises, p .stated, p .servers-zero, p .states-zero) (p .settings-valid)
+
+-- no roster in code holds more than its lists have places, unless it claims more than 64
+pub sound-fits : (r : Roster) → Sized r → (v : Bool)
+    → v ≡ cond (leb (r .held) (length (r .servers))) (cond (leb (r .held) (length (r .states))) (sound r) false) false → v ≡ sound r
+unfolding sound
+sound-fits r z v e =
+    (rw (z .servers-64, z .states-64) at e)
+    ∙ both (leb (r .held) 64) (λ t. rw t) (λ t. rw t)
 
 module _ (r : Roster) (z : Sized r) (few : r .held ≤ 64) where
   pub held-servers : length (heldServers r) ≡ r .held

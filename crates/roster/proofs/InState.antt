@@ -10,9 +10,11 @@ use borrow.Author.Tests.{eq-eqb, ne-eqb, eqb-true, eqb-false}
 use Rattle.sets.specs.Sets.{member, Within, inState}
 use Rattle.sets.proofs.Cases.{both, clash}
 use Rattle.sets.proofs.Members.{member-cases, member-tail}
-use Rattle.roster.specs.Roster.{rising, allStated, stateIn, placeIn}
-use Rattle.roster.proofs.Rising.{rise-tail, rise-none}
-use Rattle.roster.proofs.States.{state-absent, stated-tail}
+use Rattle.lists.specs.Lists.{rising, allStated, placeIn}
+use Rattle.roster.specs.Roster.{stateIn}
+use Rattle.lists.proofs.Order.{rise-tail, rise-none}
+use Rattle.lists.proofs.OfStates.{stated-tail}
+use Rattle.roster.proofs.States.{state-absent}
 
 -- they are among the servers
 pub inState-within : (k : ℕ) (ys xs : List ℕ) → Within (inState k ys xs) ys

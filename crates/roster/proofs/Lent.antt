@@ -6,7 +6,8 @@ use native.Mathlib.Nat.{not-suc-le-zero, le-of-suc-le-suc}
 use lib.Dec.{eqb}
 use lib.ListN.{length, getD}
 use Rattle.sets.proofs.Cases.{both}
-use Rattle.roster.specs.Roster.{stateIn, placeIn}
+use Rattle.lists.specs.Lists.{placeIn}
+use Rattle.roster.specs.Roster.{stateIn}
 
 module _ (s : ℕ) where
   -- it stands at the server's place

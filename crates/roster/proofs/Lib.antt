@@ -1,7 +1,4 @@
-pub mod Scans
-pub mod Moves
 pub mod Places
-pub mod Rising
 pub mod States
 pub mod InState
 pub mod Held

@@ -10,11 +10,13 @@ use borrow.Author.Tests.{lt-ltb, ltb-true, ltb-false}
 use Rattle.sets.proofs.Cases.{both}
 use Rattle.spans.specs.Spans.{allZero}
 use Rattle.roster.specs.declared.Roster.{Roster}
-use Rattle.roster.specs.Roster.{sound, heldServers, heldStates, stateOf, placeOf, takenOut, removedHorizon}
+use Rattle.lists.specs.Lists.{takenOut}
+use Rattle.roster.specs.Roster.{sound, heldServers, heldStates, stateOf, placeOf, removedHorizon}
 use Rattle.roster.proofs.Places.{state-none}
-use Rattle.roster.proofs.Rising.{rise-out}
+use Rattle.lists.proofs.Order.{rise-out}
 use Rattle.roster.proofs.States.{state-out}
-use Rattle.roster.proofs.Held.{held-takenOut, rest-takenOut, length-takenOut, stated-out}
+use Rattle.lists.proofs.OfStates.{stated-out}
+use Rattle.lists.proofs.Fronts.{held-takenOut, rest-takenOut, length-takenOut}
 use Rattle.roster.proofs.Form.{Sized, sound-parts, parts-sound, held-servers, held-same}
 
 zero-more : (l : List ℕ) → allZero l ≡ true → allZero (0 ∷ l) ≡ true

@@ -8,7 +8,8 @@ use lib.Dec.{eqb}
 use borrow.Author.Tests.{eq-eqb}
 use Rattle.sets.specs.Sets.{member}
 use Rattle.roster.specs.declared.Roster.{Roster}
-use Rattle.roster.specs.Roster.{sound, heldServers, heldStates, stateOf, workingSet, horizon, before, addedWorking, removedWorking, addedHorizon, removedHorizon}
+use Rattle.lists.specs.Lists.{before}
+use Rattle.roster.specs.Roster.{sound, heldServers, heldStates, stateOf, workingSet, horizon, addedWorking, removedWorking, addedHorizon, removedHorizon}
 use Rattle.roster.proofs.InState.{inState-in, inState-out}
 use Rattle.roster.proofs.Form.{Sized, sound-parts, held-same}
 use Rattle.roster.proofs.Changes.{addedWorking-sound, addedWorking-state, removedWorking-sound, removedWorking-state, addedHorizon-sound, addedHorizon-state, addedHorizon-servers, addedHorizon-states}

@@ -9,8 +9,9 @@ use borrow.Author.Tests.{eqb-true}
 use Rattle.sets.specs.Sets.{member, Within}
 use Rattle.sets.proofs.Cases.{both}
 use Rattle.roster.specs.declared.Roster.{Roster}
-use Rattle.roster.specs.Roster.{sound, rising, heldServers, heldStates, stateOf, workingSet, horizon}
-use Rattle.roster.proofs.Rising.{rise-none, rise-inState}
+use Rattle.lists.specs.Lists.{rising}
+use Rattle.roster.specs.Roster.{sound, heldServers, heldStates, stateOf, workingSet, horizon}
+use Rattle.lists.proofs.Order.{rise-none, rise-inState}
 use Rattle.roster.proofs.States.{state-absent, absent-state, state-held}
 use Rattle.roster.proofs.InState.{inState-within, member-inState, inState-count}
 use Rattle.roster.proofs.Form.{Sized, sound-parts, held-servers, held-same}

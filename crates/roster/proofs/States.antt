@@ -9,8 +9,10 @@ use lib.ListN.{length, take, drop}
 use borrow.Author.Tests.{ltb-true, eq-eqb, ne-eqb, eqb-true, eqb-false}
 use Rattle.sets.specs.Sets.{member}
 use Rattle.sets.proofs.Cases.{both, clash}
-use Rattle.roster.specs.Roster.{rising, allStated, stateIn, restated, before, placeIn}
-use Rattle.roster.proofs.Rising.{rise-tail, rise-none}
+use Rattle.lists.specs.Lists.{rising, allStated, before, placeIn}
+use Rattle.lists.proofs.Order.{rise-tail, rise-none}
+use Rattle.lists.proofs.OfStates.{stated-head, stated-tail}
+use Rattle.roster.specs.Roster.{stateIn, restated}
 
 -- two tests of the same numbers, the other way round
 eqb-swap : (a b : ℕ) (t : Bool) → eqb a b ≡ t → eqb b a ≡ t
@@ -26,15 +28,6 @@ state-absent x (y ∷ ys) (z ∷ xs) m =
     (eqb x y)
     (λ t. clash (rw t) m)
     (λ t. rw (eqb-swap x y false t) (state-absent x ys xs (rw t at m)))
-
-module _ (x : ℕ) (xs : List ℕ) (e : allStated (x ∷ xs) ≡ true) where
-  pub stated-head : x ≡ 0 → ⊥
-  unfolding allStated
-  stated-head q = clash e (rw q)
-
-  pub stated-tail : allStated xs ≡ true
-  unfolding allStated
-  stated-tail = both (eqb x 1) (λ t. rw t at e) (λ t. both (eqb x 2) (λ u. rw (t, u) at e) (λ u. clash (rw (t, u) at e) refl))
 
 pub absent-state : (x : ℕ) (ys xs : List ℕ) → length ys ≡ length xs → allStated xs ≡ true → stateIn x ys xs ≡ 0 → member x ys ≡ false
 unfolding stateIn

@@ -1,20 +1,16 @@
 -- Document 01, "The movers at the door": the roster, by value. It has 64 places; the first `held` of them are in use.
-use Prim.Native.Nat.{ℕ, suc, _+_, _-_}
-use mathlib.Core.Bool.{Bool, true, false, cond}
-use mathlib.Core.List.{List, [], _∷_, _++_}
+use Prim.Native.Nat.{ℕ, _+_, _-_}
+use mathlib.Core.Bool.{Bool, false, cond}
+use mathlib.Core.List.{List, [], _∷_}
 use lib.Dec.{eqb, leb, ltb}
 use lib.ListN.{length, take, drop, replicate}
 use Rattle.sets.specs.Sets.{inState}
 use Rattle.spans.specs.Spans.{allZero}
+use Rattle.lists.specs.Lists.{rising, allStated, before, putIn, placeIn, takenOut}
 use Rattle.settings.specs.Settings.{valid, fresh}
 use Rattle.roster.specs.declared.Roster.{Roster}
-
--- a held server's state: "It is working, in the horizon, or unknown."
-abbrev pub working : ℕ
-working = 1
-
-abbrev pub standby : ℕ
-standby = 2
+-- the two states of a held server, passed on
+pub use Rattle.lists.specs.Lists.{working, standby}
 
 -- the servers held, and their states
 abbrev pub heldServers : Roster → List ℕ
@@ -22,16 +18,6 @@ heldServers r = take (r .held) (r .servers)
 
 abbrev pub heldStates : Roster → List ℕ
 heldStates r = take (r .held) (r .states)
-
--- "servers in rising order": each above the one before it, the first above `last`. Above 0 at the start, so none is 0 and none stands twice.
-unfoldable pub rising : ℕ → List ℕ → Bool
-rising last [] = true
-rising last (s ∷ l) = cond (ltb last s) (rising s l) false
-
--- "each working or in the horizon"
-unfoldable pub allStated : List ℕ → Bool
-allStated [] = true
-allStated (x ∷ l) = cond (eqb x working) (allStated l) (cond (eqb x standby) (allStated l) false)
 
 -- refusal 11, turned round: "more than 64, out of order, server 0 or twice, a used unused place, bad method or row count"
 unfoldable pub sound : Roster → Bool
@@ -76,15 +62,6 @@ addedWorking s r = withState s working r
 abbrev pub removedWorking : ℕ → Roster → Roster
 removedWorking s r = withState s standby r
 
--- how many servers stand before s: those up to the first that is not below it
-unfoldable pub before : ℕ → List ℕ → ℕ
-before s [] = 0
-before s (y ∷ ys) = cond (ltb y s) (suc (before s ys)) 0
-
--- x put in behind the first p of the n places in use: those after it move up by one, the places behind stay
-unfoldable pub putIn : ℕ → ℕ → ℕ → List ℕ → List ℕ
-putIn p n x l = take p l ++ (x ∷ (drop p (take n l) ++ drop (n + 1) l))
-
 -- add horizon: a new server, in its rising place, where fewer than 64 are held; else the roster stays as it is
 unfoldable pub addedHorizon : ℕ → Roster → Roster
 addedHorizon s r =
@@ -97,15 +74,7 @@ addedHorizon s r =
     })
     r
 
--- the place p, counted from 0, taken out of the n places in use: those after it move down by one, the freed place is zero, the places behind stay
-unfoldable pub takenOut : ℕ → ℕ → List ℕ → List ℕ
-takenOut p n l = take p l ++ (drop (p + 1) (take n l) ++ (0 ∷ drop n l))
-
--- the place of a server, counted from 0; as many as are held where it isn't there
-unfoldable pub placeIn : ℕ → List ℕ → ℕ
-placeIn s [] = 0
-placeIn s (y ∷ ys) = cond (eqb y s) 0 (suc (placeIn s ys))
-
+-- the place of a server among those held
 abbrev pub placeOf : ℕ → Roster → ℕ
 placeOf s r = placeIn s (heldServers r)
 

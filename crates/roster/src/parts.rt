@@ -1,5 +1,4 @@
 // A roster's parts, lent: what a packet asks of the roster, without a copy of its two lists.
-use crate::lists;
 use settings::Settings;
 ghost use mathlib.Core.Path.{_≡_};
 ghost use mathlib.Core.Bool.{false, cond};

@@ -6,8 +6,8 @@ use lib.ListN.{length, length-take}
 use lib.Seq.{length-take-le}
 use borrow.Author.Tests.{lt-ltb, le-ltb}
 use Rattle.roster.specs.Roster.{addedHorizon, heldServers}
-use Rattle.roster.proofs.Scans.{before-le}
-use Rattle.roster.proofs.Moves.{put-in}
+use Rattle.lists.proofs.Scans.{before-le}
+use Rattle.lists.proofs.Moves.{put-in}
 use borrow.Author.Needs.{needs}
 use Rattle.roster.proofs.add_horizon.Statement.{statement}
 use Rattle.roster.proofs.add_horizon.Tie as tie

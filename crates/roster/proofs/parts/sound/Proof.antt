@@ -9,7 +9,8 @@ use lib.ListN.{length, take, drop}
 use lib.Seq.{length-take-le}
 use borrow.Author.Tests.{le-leb, lt-leb, not-true, not-false}
 use Rattle.spans.specs.Spans.{allZero}
-use Rattle.roster.specs.Roster.{sound, rising, allStated}
+use Rattle.lists.specs.Lists.{rising, allStated}
+use Rattle.roster.specs.Roster.{sound}
 use Rattle.roster.proofs.Places.{rest-zero, idle}
 use borrow.Author.Needs.{needs}
 use Rattle.roster.proofs.parts.sound.Statement.{statement}

@@ -1,15 +1,15 @@
--- `lists::stated` meets its contract: while every state so far was working or standby, what is left decides.
+-- `stated` meets its contract: while every state so far was working or standby, what is left decides.
 use Prim.Native.Nat.{_≤_, _-_}
 use mathlib.Core.Bool.{false, cond}
 use mathlib.Core.Logic.{⊎-elim}
 use mathlib.Core.Path.{_≡_, refl}
 use native.Mathlib.Omega.{arith}
 use lib.ListN.{length, drop}
-use Rattle.roster.specs.Roster.{allStated}
-use Rattle.roster.proofs.Scans.{stated-not, stated-working, stated-standby, stated-end}
+use Rattle.lists.specs.Lists.{allStated}
+use Rattle.lists.proofs.Scans.{stated-not, stated-working, stated-standby, stated-end}
 use borrow.Author.Needs.{needs}
-use Rattle.roster.proofs.lists.stated.Statement.{statement}
-use Rattle.roster.proofs.lists.stated.Tie as tie
+use Rattle.lists.proofs.stated.Statement.{statement}
+use Rattle.lists.proofs.stated.Tie as tie
 
 abbrev Inv-loop : tie.InvT-loop
 Inv-loop s good₀ i₀ good i = (i ≤ length s) × (cond good (allStated (drop i s)) false ≡ allStated s)

@@ -1,13 +1,13 @@
--- `lists::rising` meets its contract: from each place on, the servers left rise above the last one passed just where all of them rise.
+-- `rising` meets its contract: from each place on, the servers left rise above the last one passed just where all of them rise.
 use Prim.Native.Nat.{_≤_, _-_}
 use mathlib.Core.Path.{_≡_, refl}
 use native.Mathlib.Omega.{arith}
 use lib.ListN.{length, drop}
-use Rattle.roster.specs.Roster.{rising}
-use Rattle.roster.proofs.Scans.{rising-stop, rising-more, rising-end}
+use Rattle.lists.specs.Lists.{rising}
+use Rattle.lists.proofs.Scans.{rising-stop, rising-more, rising-end}
 use borrow.Author.Needs.{needs}
-use Rattle.roster.proofs.lists.rising.Statement.{statement}
-use Rattle.roster.proofs.lists.rising.Tie as tie
+use Rattle.lists.proofs.rising.Statement.{statement}
+use Rattle.lists.proofs.rising.Tie as tie
 
 abbrev Inv-loop : tie.InvT-loop
 Inv-loop s last₀ i₀ last i = (i ≤ length s) × (rising last (drop i s) ≡ rising 0 s)

@@ -3,7 +3,7 @@ ghost use mathlib.Core.Path.{_≡_};
 ghost use mathlib.Core.List.{_∷_};
 ghost use lib.ListN.{length, take};
 ghost use Rattle.spans.specs.Spans.{allZero, closed};
-ghost use Rattle.roster.specs.Roster.{rising as rising-of, allStated, placeIn, before as before-of};
+ghost use Rattle.lists.specs.Lists.{rising as rising-of, allStated, placeIn, before as before-of};
 
 // Whether servers rise: each above the one before it, the first above 0.
 pub fn rising(s: &[u32]) -> bool

@@ -9,7 +9,7 @@ use lib.ListN.{length, getD, take, drop, set, length-take, length-drop}
 use lib.Seq.{drop-length, take-take, length-take-le, drop-drop, take-length, take-add, drop-at, drop-cons, set-at}
 use borrow.Rule.Slice.PartMut.{postOf, post-is}
 use Rattle.spans.specs.Spans.{closed}
-use Rattle.roster.specs.Roster.{putIn, takenOut}
+use Rattle.lists.specs.Lists.{putIn, takenOut}
 
 -- what a push carries on to the next place
 carry-suc : (x : ℕ) (s : List ℕ) (i : ℕ) → i < length s → getD (take i (x ∷ s) ++ drop i s) i 0 ≡ getD (x ∷ s) (suc i) 0

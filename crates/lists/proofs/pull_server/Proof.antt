@@ -1,14 +1,14 @@
--- `lists::pull_server` meets its contract: the places passed hold the servers one place further on; the last becomes zero after the loop.
+-- `pull_server` meets its contract: the places passed hold the servers one place further on; the last becomes zero after the loop.
 use Prim.Native.Nat.{_≤_, _-_}
 use mathlib.Core.List.{_++_}
 use mathlib.Core.Path.{_≡_, refl}
 use native.Mathlib.Omega.{arith}
 use lib.ListN.{length, take, drop}
 use Rattle.spans.proofs.Shifts.{shift-more}
-use Rattle.roster.proofs.Moves.{pulled, pulled-none}
+use Rattle.lists.proofs.Moves.{pulled, pulled-none}
 use borrow.Author.Needs.{needs}
-use Rattle.roster.proofs.lists.pull_server.Statement.{statement}
-use Rattle.roster.proofs.lists.pull_server.Tie as tie
+use Rattle.lists.proofs.pull_server.Statement.{statement}
+use Rattle.lists.proofs.pull_server.Tie as tie
 
 abbrev Inv-loop : tie.InvT-loop
 Inv-loop s₀ last i₀ s i = (i ≤ last) × ((length s ≡ length s₀) × (s ≡ take i (drop 1 s₀) ++ drop i s₀))

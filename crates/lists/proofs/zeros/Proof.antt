@@ -1,4 +1,4 @@
--- `lists::zeros` meets its contract: with what was read so far zero, what is left decides.
+-- `zeros` meets its contract: with what was read so far zero, what is left decides.
 use Prim.Native.Nat.{_≤_, _-_}
 use mathlib.Core.Bool.{false, cond}
 use mathlib.Core.Path.{_≡_, refl}
@@ -8,8 +8,8 @@ use lib.ListN.{length, drop}
 use Rattle.spans.specs.Spans.{allZero}
 use Rattle.spans.proofs.Scans.{zero-more, zero-end}
 use borrow.Author.Needs.{needs}
-use Rattle.roster.proofs.lists.zeros.Statement.{statement}
-use Rattle.roster.proofs.lists.zeros.Tie as tie
+use Rattle.lists.proofs.zeros.Statement.{statement}
+use Rattle.lists.proofs.zeros.Tie as tie
 
 abbrev Inv-loop : tie.InvT-loop
 Inv-loop s bits₀ i₀ bits i = (i ≤ length s) × (cond (eqb bits 0) (allZero (drop i s)) false ≡ allZero s)

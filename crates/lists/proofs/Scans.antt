@@ -11,7 +11,7 @@ use lib.Seq.{drop-cons}
 use borrow.Author.Tests.{eq-eqb, ne-eqb, lt-ltb, le-ltb}
 use Rattle.sets.proofs.Cases.{both}
 use Rattle.sets.specs.Sets.{inState}
-use Rattle.roster.specs.Roster.{rising, allStated, placeIn, before}
+use Rattle.lists.specs.Lists.{rising, allStated, placeIn, before}
 
 module _ (s : List ℕ) (last i : ℕ) (W : Bool) (so : rising last (drop i s) ≡ W) where
   rising-step : i < length s → rising last (drop i s) ≡ cond (ltb last (getD s i 0)) (rising (getD s i 0) (drop (i + 1) s)) false

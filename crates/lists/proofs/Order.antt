@@ -10,7 +10,7 @@ use borrow.Author.Tests.{ltb-true, ltb-false, lt-ltb, eq-eqb}
 use Rattle.sets.specs.Sets.{member, inState}
 use Rattle.sets.proofs.Cases.{both, clash, not-so}
 use Rattle.sets.proofs.Members.{member-cases}
-use Rattle.roster.specs.Roster.{rising, before}
+use Rattle.lists.specs.Lists.{rising, before}
 
 module _ (last y : ℕ) (ys : List ℕ) (e : rising last (y ∷ ys) ≡ true) where
   pub rise-head : last < y

@@ -1,0 +1,6 @@
+pub mod Scans
+pub mod Moves
+pub mod Order
+pub mod OfStates
+pub mod Fronts
+pub mod Unique
