@@ -1,4 +1,4 @@
--- A server's state set at its place, and a roster that claims more than 64: all its 64 places are in use.
+-- A server's state read and set at its place, and a roster that claims more than 64: all its 64 places are in use.
 use Prim.Native.Nat.{ℕ, _-_, _<_, _≤_, min}
 use mathlib.Core.Bool.{Bool, true, false, cond}
 use mathlib.Core.List.{List, [], _∷_, _++_}
@@ -6,8 +6,8 @@ use mathlib.Core.Path.{_≡_, refl, sym, ap, _∙_}
 use native.Mathlib.Nat.{not-suc-le-zero, le-of-suc-le-suc}
 use native.Mathlib.Omega.{arith}
 use lib.Dec.{eqb, ltb, leb}
-use lib.ListN.{length, take, drop, set, length-drop, drop-of-length-le}
-use lib.Seq.{take-all, length-take-le}
+use lib.ListN.{length, getD, take, drop, set, length-drop, drop-of-length-le}
+use lib.Seq.{take-all, length-take-le, getD-take}
 use borrow.Author.Tests.{lt-ltb, le-ltb, leb-true, leb-false}
 use borrow.Rule.Slice.PartMut.{postOf}
 use Rattle.sets.proofs.Cases.{both}
@@ -17,6 +17,13 @@ use Rattle.roster.specs.Roster.{stateIn, restated}
 use Rattle.lists.proofs.Moves.{take-out}
 
 module _ (s : ℕ) where
+  pub state-at : (ys xs : List ℕ) → placeIn s ys < length ys → length ys ≤ length xs → stateIn s ys xs ≡ getD xs (placeIn s ys) 0
+  unfolding stateIn placeIn
+  state-at [] xs h k = absurd (not-suc-le-zero h)
+  state-at (y ∷ ys) [] h k = absurd (not-suc-le-zero k)
+  state-at (y ∷ ys) (x ∷ xs) h k =
+      both (eqb y s) (λ t. rw t) (λ t. rw t (state-at ys xs (le-of-suc-le-suc (rw t at h)) (le-of-suc-le-suc k)))
+
   pub state-none : (ys xs : List ℕ) → length ys ≤ placeIn s ys → stateIn s ys xs ≡ 0
   unfolding stateIn placeIn
   state-none [] xs h = refl
@@ -68,6 +75,18 @@ module _ (h n : ℕ) (l : List ℕ) (w : length l ≡ 64) (e : n ≡ min h 64) w
 
 -- a server's place p among the servers ss, with their states xs
 module _ (s h n p : ℕ) (ss xs : List ℕ) (ws : length ss ≡ 64) (wx : length xs ≡ 64) (e : n ≡ min h 64) (at : p ≡ placeIn s (take n ss)) where
+  pub read-state : p < n → getD xs p 0 ≡ stateIn s (take h ss) (take h xs)
+  read-state k =
+      let ls : length (take n ss) ≡ n = length-used h n ss ws e in
+      let lx : length (take n xs) ≡ n = length-used h n xs wx e in
+      rw (← take-used h n ss ws e, ← take-used h n xs wx e)
+      (sym (getD-take n xs p 0 k) ∙ ap (λ (i : ℕ). getD (take n xs) i 0) at ∙ sym (state-at s (take n ss) (take n xs) (omega arith) (omega arith)))
+
+  pub no-state : n ≤ p → 0 ≡ stateIn s (take h ss) (take h xs)
+  no-state k =
+      let ls : length (take n ss) ≡ n = length-used h n ss ws e in
+      rw (← take-used h n ss ws e, ← take-used h n xs wx e) (sym (state-none s (take n ss) (take n xs) (omega arith)))
+
   pub write-state : (k : ℕ) → p < n → set xs p k ≡ restated s k (take h ss) xs
   write-state k g =
       let ls : length (take n ss) ≡ n = length-used h n ss ws e in

@@ -27,13 +27,28 @@ pub fn empty() -> Roster
 }
 
 // Whether a roster has its stated form; one that hasn't is refused with 11.
-// The lists are copied, since two fields of one local can't be lent at once.
 pub fn sound(r: Roster) -> bool
     ensures { λ v. ⌜ v ≡ sound-of r ⌝ }
 {
-    let servers = r.servers;
-    let states = r.states;
-    parts::sound(&servers, &states, r.held, r.settings)
+    let held = r.held;
+    if held > 64 {
+        return false;
+    }
+    let servers: &[u32] = &r.servers;
+    if !lists::rising(&servers[..held]) {
+        return false;
+    }
+    if !lists::zeros(&servers[held..]) {
+        return false;
+    }
+    let states: &[u8] = &r.states;
+    if !lists::stated(&states[..held]) {
+        return false;
+    }
+    if !spans::all_zero(&states[held..]) {
+        return false;
+    }
+    settings::valid(r.settings)
 }
 
 // The state of a server: 1 working, 2 in the horizon, 0 unknown.
@@ -41,9 +56,12 @@ pub fn state_of(r: Roster, server: u32) -> u8
     ensures { λ v. ⌜ v ≡ stateOf server r ⌝ }
 {
     let n = in_use(r.held);
-    let servers = r.servers;
-    let states = r.states;
-    parts::state_in(&servers[..n], &states[..n], server)
+    let servers: &[u32] = &r.servers;
+    let p = lists::place(&servers[..n], server);
+    if p < n {
+        return r.states[p];
+    }
+    0
 }
 
 // A server of the horizon brought into work.
