@@ -1,16 +1,17 @@
 -- No second reaction satisfies a promise that gives it, with the buffers it leaves, as one change: reply, roster, redraw, table, rows and
 -- flags are determined one by one.
 use Prim.Native.Nat.{ℕ}
-use mathlib.Core.Bool.{Bool}
 use mathlib.Core.List.{List, []}
 use mathlib.Core.Path.{_≡_, sym, ap, _∙_}
 use Rattle.roster.specs.declared.Roster.{Roster}
 use Rattle.rules.specs.declared.Reply.{Reply}
-use Rattle.rules.specs.Answer.{accepts}
-use Rattle.rules.specs.Rules.{Change, refused}
-use Rattle.rules.proofs.Apart.{told-apart}
+use Rattle.rules.specs.Rules.{Change}
+use Rattle.rules.proofs.Apart.{answer-apart}
 use Rattle.answers.specs.declared.Reaction.{Reaction}
-use Rattle.answers.specs.Reacting.{stateWith, reacted, replied}
+use Rattle.answers.proofs.refused.Reads.{Learnt as refused-promise}
+use Rattle.answers.proofs.stays.Reads.{Learnt as stays-promise}
+use Rattle.answers.proofs.taken.Reads.{Learnt as taken-promise}
+use Rattle.answers.specs.Reacting.{reacted, replied}
 
 pub record SameReaction (v v′ : Reaction) (t t′ ns ns′ fs fs′ : List ℕ) : Type 0 where
   pub reaction : v ≡ v′
@@ -31,7 +32,7 @@ reaction-unique v v′ t t′ rows rows′ flags flags′ c p q =
           same
           v
           v′
-          (told-apart (v .reply) (v′ .reply) (ap (λ (x : Change). x .told) e))
+          (answer-apart (v .reply) (v′ .reply) (ap (λ (x : Change). x .answer) e))
           (ap (λ (x : Change). x .state .roster) e)
           (ap (λ (x : Change). x .redraw) e);
       table = ap (λ (x : Change). x .state .table) e;
@@ -48,20 +49,14 @@ pub reply-unique : (v v′ : Reply) (t t′ rows flags : List ℕ) (r : Roster) 
     → replied v t rows flags r ≡ c → replied v′ t′ rows flags r ≡ c → SameReply v v′ t t′
 reply-unique v v′ t t′ rows flags r c p q =
     let e : replied v t rows flags r ≡ replied v′ t′ rows flags r = p ∙ sym q in
-    record { reply = told-apart v v′ (ap (λ (x : Change). x .told) e); table = ap (λ (x : Change). x .state .table) e }
+    record { reply = answer-apart v v′ (ap (λ (x : Change). x .answer) e); table = ap (λ (x : Change). x .state .table) e }
 
--- for the functions of this crate, which touch no buffer
-pub refused-unique : (n : ℕ) (r : Roster) (v v′ : Reaction)
-    → ((t rows flags : List ℕ) → reacted v t rows flags ≡ refused n (stateWith t rows flags r))
-    → ((t rows flags : List ℕ) → reacted v′ t rows flags ≡ refused n (stateWith t rows flags r)) → v ≡ v′
-refused-unique n r v v′ p q = reaction-unique v v′ [] [] [] [] [] [] _ (p [] [] []) (q [] [] []) .reaction
+-- for the functions of this crate, which touch no buffer: of their contracts
+pub refused-unique : (κs : _) (a : _) (v v′ : Reaction) (e e′ : _) → refused-promise κs a v e → refused-promise κs a v′ e′ → v ≡ v′
+refused-unique κs a v v′ e e′ p q = reaction-unique v v′ [] [] [] [] [] [] _ (p [] [] []) (q [] [] []) .reaction
 
-pub stays-unique : (reply : Reply) (r : Roster) (v v′ : Reaction)
-    → ((t rows flags : List ℕ) → reacted v t rows flags ≡ replied reply t rows flags r)
-    → ((t rows flags : List ℕ) → reacted v′ t rows flags ≡ replied reply t rows flags r) → v ≡ v′
-stays-unique reply r v v′ p q = reaction-unique v v′ [] [] [] [] [] [] _ (p [] [] []) (q [] [] []) .reaction
+pub stays-unique : (κs : _) (a : _) (v v′ : Reaction) (e e′ : _) → stays-promise κs a v e → stays-promise κs a v′ e′ → v ≡ v′
+stays-unique κs a v v′ e e′ p q = reaction-unique v v′ [] [] [] [] [] [] _ (p [] [] []) (q [] [] []) .reaction
 
-pub taken-unique : (next : Roster) (redraw : Bool) (v v′ : Reaction)
-    → ((t rows flags : List ℕ) → reacted v t rows flags ≡ record { told = accepts 0 0 0; state = stateWith t rows flags next; redraw = redraw })
-    → ((t rows flags : List ℕ) → reacted v′ t rows flags ≡ record { told = accepts 0 0 0; state = stateWith t rows flags next; redraw = redraw }) → v ≡ v′
-taken-unique next redraw v v′ p q = reaction-unique v v′ [] [] [] [] [] [] _ (p [] [] []) (q [] [] []) .reaction
+pub taken-unique : (κs : _) (a : _) (v v′ : Reaction) (e e′ : _) → taken-promise κs a v e → taken-promise κs a v′ e′ → v ≡ v′
+taken-unique κs a v v′ e e′ p q = reaction-unique v v′ [] [] [] [] [] [] _ (p [] [] []) (q [] [] []) .reaction

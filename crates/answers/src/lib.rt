@@ -2,9 +2,8 @@
 ghost use mathlib.Core.Path.{_≡_};
 ghost use mathlib.Core.List.{List};
 ghost use Prim.Native.Nat.{ℕ};
-ghost use Rattle.rules.specs.Answer.{accepts};
-ghost use Rattle.rules.specs.Rules.{refused as refused-by};
-ghost use Rattle.answers.specs.Reacting.{stateWith, reacted, replied};
+ghost use Rattle.rules.specs.Rules.{refused as refused-by, taken as taken-by, stateWith};
+ghost use Rattle.answers.specs.Reacting.{reacted, replied};
 use roster::Roster;
 use rules::Reply;
 
@@ -39,7 +38,7 @@ pub fn stays(reply: Reply, r: Roster) -> Reaction
 
 // An accepted roster change or configure: server, mark and reads are 0.
 pub fn taken(next: Roster, redraw: bool) -> Reaction
-    ensures { λ v. ⌜ ((t rows flags : List ℕ) → reacted v t rows flags ≡ record { told = accepts 0 0 0; state = stateWith t rows flags next; redraw = redraw }) ⌝ }
+    ensures { λ v. ⌜ ((t rows flags : List ℕ) → reacted v t rows flags ≡ taken-by redraw (stateWith t rows flags next)) ⌝ }
 {
     Reaction {
         reply: Reply::Accepted {

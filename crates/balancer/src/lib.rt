@@ -1,7 +1,6 @@
 // The balancer: a start or an event, over the lent table, rows, flags and ring, with the roster handed in and handed back.
 ghost use mathlib.Core.Path.{_≡_};
-ghost use Rattle.rules.specs.Rules.{State, done, startDone, eventOf};
-ghost use Rattle.answers.specs.Reacting.{stateWith};
+ghost use Rattle.rules.specs.Rules.{worldWith, EventPromise, StartPromise};
 ghost use Rattle.engine.specs.Looking.{redrawn};
 use ring::Entry;
 use roster::Roster;
@@ -16,8 +15,9 @@ pub fn event(
     ring: &mut [Entry],
     roster: Roster,
 ) -> Outcome
-    ensures { λ o. ⌜ done o (now (table .exit)) (now (rows .exit)) (now (flags .exit)) (now (ring .exit))
-        ≡ eventOf (now («record» .entry)) (stateWith (now (table .entry)) (now (rows .entry)) (now (flags .entry)) roster) (now (ring .entry)) ⌝ }
+    ensures { λ o. ⌜ EventPromise (now («record» .entry))
+        (worldWith (now (table .entry)) (now (rows .entry)) (now (flags .entry)) (now (ring .entry)) roster)
+        (worldWith (now (table .exit)) (now (rows .exit)) (now (flags .exit)) (now (ring .exit)) (o .roster)) (o .reply) ⌝ }
 {
     let seen = engine::look(record, table, rows.len(), flags.len(), ring.len(), roster);
     let spot = ring::read(ring, seen.places, seen.f);
@@ -48,8 +48,9 @@ pub fn start(
     ring: &[Entry],
     roster: Roster,
 ) -> Outcome
-    ensures { λ o. ⌜ done o (now (table .exit)) (now (rows .entry)) (now (flags .entry)) (now (ring .entry))
-        ≡ startDone (stateWith (now (table .entry)) (now (rows .entry)) (now (flags .entry)) roster) (now (ring .entry)) ⌝ }
+    ensures { λ o. ⌜ StartPromise
+        (worldWith (now (table .entry)) (now (rows .entry)) (now (flags .entry)) (now (ring .entry)) roster)
+        (worldWith (now (table .exit)) (now (rows .entry)) (now (flags .entry)) (now (ring .entry)) (o .roster)) (o .reply) ⌝ }
 {
     engine::begin(table, rows.len(), flags.len(), ring.len(), roster)
 }

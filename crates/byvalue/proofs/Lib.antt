@@ -1,3 +1,3 @@
 pub mod Handing
 pub mod Refused
-pub mod Unique
+pub mod Contracts

@@ -8,7 +8,8 @@ use lib.ListN.{length}
 use Rattle.sets.proofs.Cases.{both}
 use Rattle.rules.specs.declared.Outcome.{Outcome}
 use Rattle.ring.specs.declared.Entry.{Entry}
-use Rattle.rules.specs.Rules.{State, Done, sizesRight, admitted, judged, done, eventOf}
+use Rattle.rules.specs.Answer.{answerOf}
+use Rattle.rules.specs.Rules.{World, worldWith, Done, sizesRight, lentBar, admitted, judged, eventOf, EventPromise}
 
 -- the sizes are wrong where the ring has 63 entries
 wrong : (t rows flags : ℕ) → sizesRight t rows flags 63 ≡ false
@@ -18,12 +19,15 @@ wrong t rows flags =
     both (leb t 65520) (λ b. both (eqb (t % 20) 0) (λ c. both (eqb rows 4096) (λ d. both (eqb flags 4096) (λ f. rw (a, b, c, d, f) refl) (λ f. rw (a, b, c, d, f) refl)) (λ d. rw (a, b, c, d) refl)) (λ c. rw (a, b, c) refl)) (λ b. rw (a, b) refl))
 
 -- so the ring stays
-stays : (bytes : List ℕ) (st : State) (ring : List Entry) → length ring ≡ 63 → eventOf bytes st ring .ring ≡ ring
-unfolding eventOf admitted judged
-stays bytes st ring n =
-    rw n (rw (wrong (length (st .table)) (length (st .rows)) (length (st .flags))) refl)
+stays : (bytes : List ℕ) (w : World) → length (w .ring) ≡ 63 → eventOf bytes w .world .ring ≡ w .ring
+unfolding eventOf admitted lentBar judged
+stays bytes w n =
+    rw n (rw (wrong (length (w .state .table)) (length (w .state .rows)) (length (w .state .flags))) refl)
 
-pub short-stays : (bytes : List ℕ) (st : State) (ring zs : List Entry) (o : Outcome) (t rows flags : List ℕ) → length ring ≡ 63
-    → done o t rows flags zs ≡ eventOf bytes st ring → done o t rows flags ring ≡ eventOf bytes st ring
-short-stays bytes st ring zs o t rows flags n e =
-    ap (λ (es : List Entry). done o t rows flags es) (sym (stays bytes st ring n) ∙ sym (ap (λ (d : Done). d .ring) e)) ∙ e
+pub short-stays : (bytes : List ℕ) (w : World) (zs : List Entry) (o : Outcome) (t rows flags : List ℕ) → length (w .ring) ≡ 63
+    → EventPromise bytes w (worldWith t rows flags zs (o .roster)) (o .reply)
+    → EventPromise bytes w (worldWith t rows flags (w .ring) (o .roster)) (o .reply)
+short-stays bytes w zs o t rows flags n e =
+    ap (λ (es : List Entry). record { answer = answerOf (o .reply); world = worldWith t rows flags es (o .roster) })
+    (sym (stays bytes w n) ∙ sym (ap (λ (d : Done). d .world .ring) e))
+    ∙ e

@@ -2,8 +2,7 @@
 ghost use mathlib.Core.Path.{_≡_};
 ghost use lib.ListN.{replicate};
 ghost use Rattle.ring.specs.Ring.{blank};
-ghost use Rattle.rules.specs.Rules.{State, done, startDone, eventOf};
-ghost use Rattle.answers.specs.Reacting.{stateWith};
+ghost use Rattle.rules.specs.Rules.{worldWith, EventPromise, StartPromise};
 use ring::Entry;
 use roster::Roster;
 use rules::Outcome;
@@ -23,8 +22,9 @@ pub fn event(
     ring: [Entry; 64],
     roster: Roster,
 ) -> Tried
-    ensures { λ v. ⌜ done (v .outcome) (now (table .exit)) (now (rows .exit)) (now (flags .exit)) (v .ring)
-        ≡ eventOf (now («record» .entry)) (stateWith (now (table .entry)) (now (rows .entry)) (now (flags .entry)) roster) ring ⌝ }
+    ensures { λ v. ⌜ EventPromise (now («record» .entry))
+        (worldWith (now (table .entry)) (now (rows .entry)) (now (flags .entry)) ring roster)
+        (worldWith (now (table .exit)) (now (rows .exit)) (now (flags .exit)) (v .ring) (v .outcome .roster)) (v .outcome .reply) ⌝ }
 {
     let mut es = ring;
     let outcome = balancer::event(record, table, rows, flags, &mut es, roster);
@@ -42,8 +42,9 @@ pub fn start(
     ring: [Entry; 64],
     roster: Roster,
 ) -> Outcome
-    ensures { λ o. ⌜ done o (now (table .exit)) (now (rows .entry)) (now (flags .entry)) ring
-        ≡ startDone (stateWith (now (table .entry)) (now (rows .entry)) (now (flags .entry)) roster) ring ⌝ }
+    ensures { λ o. ⌜ StartPromise
+        (worldWith (now (table .entry)) (now (rows .entry)) (now (flags .entry)) ring roster)
+        (worldWith (now (table .exit)) (now (rows .entry)) (now (flags .entry)) ring (o .roster)) (o .reply) ⌝ }
 {
     let es = ring;
     balancer::start(table, rows, flags, &es, roster)
@@ -57,8 +58,9 @@ pub fn event_short(
     flags: &mut [u8],
     roster: Roster,
 ) -> Outcome
-    ensures { λ o. ⌜ done o (now (table .exit)) (now (rows .exit)) (now (flags .exit)) (replicate 63 blank)
-        ≡ eventOf (now («record» .entry)) (stateWith (now (table .entry)) (now (rows .entry)) (now (flags .entry)) roster) (replicate 63 blank) ⌝ }
+    ensures { λ o. ⌜ EventPromise (now («record» .entry))
+        (worldWith (now (table .entry)) (now (rows .entry)) (now (flags .entry)) (replicate 63 blank) roster)
+        (worldWith (now (table .exit)) (now (rows .exit)) (now (flags .exit)) (replicate 63 blank) (o .roster)) (o .reply) ⌝ }
 {
     let mut es = short_ring();
     balancer::event(record, table, rows, flags, &mut es, roster)

@@ -8,19 +8,19 @@ ghost use mathlib.Core.Path.{_≡_};
 ghost use mathlib.Core.List.{List};
 ghost use Prim.Native.Nat.{ℕ};
 ghost use Rattle.ranking.specs.declared.Pick.{Pick};
-ghost use Rattle.event.specs.Event.{toldAs};
+ghost use Rattle.event.specs.Event.{requestBy};
 ghost use Rattle.event.specs.declared.Ask.the-variants.{End, AddWorking, RemoveWorking, AddHorizon, RemoveHorizon, Configure};
 ghost use Rattle.roster.specs.Roster.{workingSet, horizon};
 ghost use Rattle.rows.specs.Rows.{Rows, filled};
-ghost use Rattle.table.specs.Table.{Finding, told as told-found};
-ghost use Rattle.rules.specs.Answer.{accepts};
-ghost use Rattle.rules.specs.Rules.{changed, judged, refused as refused-by};
-ghost use Rattle.answers.specs.Reacting.{stateWith, reacted, replied};
+ghost use Rattle.table.specs.Table.{Finding, findingOf};
+ghost use Rattle.rules.specs.Rules.{stateWith, changed, judged};
+ghost use Rattle.answers.specs.Reacting.{reacted, replied};
 
 // An end of connection: the key's record is taken away.
 pub fn end(found: Found, table: &mut [u8]) -> Reply
     ensures { λ v. ⌜ ((key : List ℕ) (pick : Pick) (rows flags : List ℕ) (r : Roster)
-        → replied v (now (table .exit)) rows flags r ≡ judged (toldAs End key) (told-found found) pick (stateWith (now (table .entry)) rows flags r)) ⌝ }
+        → replied v (now (table .exit)) rows flags r
+        ≡ judged (requestBy End key) (findingOf found) pick (stateWith (now (table .entry)) rows flags r)) ⌝ }
 {
     match found {
         Found::At(place) => {
@@ -42,7 +42,8 @@ pub fn end(found: Found, table: &mut [u8]) -> Reply
 // A roster change that is accepted: under method 3 the rows are filled for it, under method 2 the ring is to be drawn for it.
 fn alter(next: Roster, rows: &mut [u32], flags: &mut [u8]) -> Reaction
     ensures { λ v. ⌜ ((t t₀ : List ℕ) (r₀ : Roster)
-        → reacted v t (now (rows .exit)) (now (flags .exit)) ≡ changed next t (stateWith t₀ (now (rows .entry)) (now (flags .entry)) r₀)) ⌝ }
+        → reacted v t (now (rows .exit)) (now (flags .exit))
+        ≡ changed next t (stateWith t₀ (now (rows .entry)) (now (flags .entry)) r₀)) ⌝ }
 {
     let settings = next.settings;
     if settings.method == 3 {
@@ -67,7 +68,8 @@ fn fill(r: Roster, rows: &mut [u32], flags: &mut [u8])
 // Add working: refused with 4 unless the server is in the horizon.
 pub fn add_working(server: u32, rows: &mut [u32], flags: &mut [u8], r: Roster) -> Reaction
     ensures { λ v. ⌜ ((key t : List ℕ) (found : Finding) (pick : Pick)
-        → reacted v t (now (rows .exit)) (now (flags .exit)) ≡ judged (toldAs (AddWorking server) key) found pick (stateWith t (now (rows .entry)) (now (flags .entry)) r)) ⌝ }
+        → reacted v t (now (rows .exit)) (now (flags .exit))
+        ≡ judged (requestBy (AddWorking server) key) found pick (stateWith t (now (rows .entry)) (now (flags .entry)) r)) ⌝ }
 {
     if roster::state_of(r, server) != 2 {
         return answers::refused(4, r);
@@ -85,7 +87,7 @@ pub fn remove_working(
 ) -> Reaction
     ensures { λ v. ⌜ ((key : List ℕ) (found : Finding) (pick : Pick)
         → reacted v (now (table .exit)) (now (rows .exit)) (now (flags .exit))
-        ≡ judged (toldAs (RemoveWorking server) key) found pick (stateWith (now (table .entry)) (now (rows .entry)) (now (flags .entry)) r)) ⌝ }
+        ≡ judged (requestBy (RemoveWorking server) key) found pick (stateWith (now (table .entry)) (now (rows .entry)) (now (flags .entry)) r)) ⌝ }
 {
     if roster::state_of(r, server) != 1 {
         return answers::refused(5, r);
@@ -97,7 +99,8 @@ pub fn remove_working(
 // Add horizon: refused with 3 where the server is held already, with 6 where 64 are held.
 pub fn add_horizon(server: u32, rows: &mut [u32], flags: &mut [u8], r: Roster) -> Reaction
     ensures { λ v. ⌜ ((key t : List ℕ) (found : Finding) (pick : Pick)
-        → reacted v t (now (rows .exit)) (now (flags .exit)) ≡ judged (toldAs (AddHorizon server) key) found pick (stateWith t (now (rows .entry)) (now (flags .entry)) r)) ⌝ }
+        → reacted v t (now (rows .exit)) (now (flags .exit))
+        ≡ judged (requestBy (AddHorizon server) key) found pick (stateWith t (now (rows .entry)) (now (flags .entry)) r)) ⌝ }
 {
     if roster::state_of(r, server) != 0 {
         return answers::refused(3, r);
@@ -111,7 +114,8 @@ pub fn add_horizon(server: u32, rows: &mut [u32], flags: &mut [u8], r: Roster) -
 // Remove horizon: refused with 4 unless the server is in the horizon.
 pub fn remove_horizon(server: u32, rows: &mut [u32], flags: &mut [u8], r: Roster) -> Reaction
     ensures { λ v. ⌜ ((key t : List ℕ) (found : Finding) (pick : Pick)
-        → reacted v t (now (rows .exit)) (now (flags .exit)) ≡ judged (toldAs (RemoveHorizon server) key) found pick (stateWith t (now (rows .entry)) (now (flags .entry)) r)) ⌝ }
+        → reacted v t (now (rows .exit)) (now (flags .exit))
+        ≡ judged (requestBy (RemoveHorizon server) key) found pick (stateWith t (now (rows .entry)) (now (flags .entry)) r)) ⌝ }
 {
     if roster::state_of(r, server) != 2 {
         return answers::refused(4, r);
@@ -129,7 +133,7 @@ pub fn configure(
 ) -> Reaction
     ensures { λ v. ⌜ ((key : List ℕ) (found : Finding) (pick : Pick)
         → reacted v (now (table .entry)) (now (rows .exit)) (now (flags .exit))
-        ≡ judged (toldAs (Configure settings) key) found pick (stateWith (now (table .entry)) (now (rows .entry)) (now (flags .entry)) r)) ⌝ }
+        ≡ judged (requestBy (Configure settings) key) found pick (stateWith (now (table .entry)) (now (rows .entry)) (now (flags .entry)) r)) ⌝ }
 {
     if r.held != 0 {
         return answers::refused(10, r);

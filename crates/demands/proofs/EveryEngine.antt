@@ -5,7 +5,7 @@ use mathlib.Core.List.{List, [], _∷_, _++_}
 use mathlib.Core.Path.{_≡_}
 use Rattle.roster.specs.declared.Roster.{Roster}
 use Rattle.table.specs.Table.{entries}
-use Rattle.rules.specs.Answer.{Told}
+use Rattle.rules.specs.Answer.{Answer}
 use Rattle.histories.specs.Histories.{AllBytes, Distinct, AllWorking}
 use Rattle.demands.specs.Demands.{Engine, ours, Demand2, Throughout, Provisos, Demand3}
 use Rattle.demands.proofs.Same.{same-engines, same-answers}

@@ -16,7 +16,7 @@ use Rattle.event.specs.Event.{allBytes, eventIn, byKind, asksServer, asksKey}
 use Rattle.event.proofs.Reading.{packet-reads, end-reads}
 use Rattle.table.specs.Table.{Finding, find}
 use Rattle.ringplan.specs.Plan.{some}
-use Rattle.rules.specs.Answer.{Told, accepts}
+use Rattle.rules.specs.Answer.{Answer, accepts}
 use Rattle.rules.specs.Rules.{barred, end, effect, judged}
 use Rattle.histories.specs.Histories.{AllBytes}
 use Rattle.demands.specs.Demands.{Engine, otherwise, Demand2}
@@ -30,7 +30,7 @@ lowest [] = 0
 lowest (s ∷ l) = s
 
 -- the first event: server 1 is taken into the horizon
-first-told : (t : List ℕ) → otherwise (eventIn (stand 1)) t emptyRoster .told ≡ accepts 0 0 0
+first-told : (t : List ℕ) → otherwise (eventIn (stand 1)) t emptyRoster .answer ≡ accepts 0 0 0
 unfolding judged barred effect stateIn eventIn byKind asksServer allZero
 first-told t = refl
 
@@ -44,8 +44,8 @@ module _ (n : ℕ) (E : Engine) (d : Demand2 n E) where
   unfolding allBytes eventIn byKind asksServer allZero
   not-refusing all =
       let e : E .says [] (stand 1) ≡ accepts 0 0 0 =
-      unserved-seen n E d [] (stand 1) (refl, tt) refl .told ∙ rw (d .startsEmpty) (first-told (E .table [])) in
-      clash (ap (λ (a : Told). a .accepted) e) (all [] (stand 1) (refl, tt))
+      unserved-seen n E d [] (stand 1) (refl, tt) refl .answer ∙ rw (d .startsEmpty) (first-told (E .table [])) in
+      clash (ap (λ (a : Answer). a .accepted) e) (all [] (stand 1) (refl, tt))
 
   -- one that names the lowest working server to each packet without a record
   pub not-lowest : ((h : List (List ℕ)) (bytes key : List ℕ) → AllBytes (bytes ∷ h) → eventIn bytes ≡ asksKey 1 key
@@ -56,7 +56,7 @@ module _ (n : ℕ) (E : Engine) (d : Demand2 n E) where
       let (t, r) = joined-seen n E d in
       let f : find keyP (E .table joined) .found ≡ false = rw t (ap (λ (x : Finding). x .found) (clear-find n keyP)) in
       let one : lowest (workingSet (E .roster joined)) ≡ 1 = rw r in
-      let two : E .says joined packetP .server ≡ 2 = ap (λ (a : Told). a .server) (joined-packet n E d) in
+      let two : E .says joined packetP .server ≡ 2 = ap (λ (a : Answer). a .server) (joined-packet n E d) in
       let q = all joined packetP keyP (refl, joined-bytes) (packet-reads keyP refl) (rw r) f in
       omega arith
 
@@ -79,13 +79,13 @@ module _ (n : ℕ) (E : Engine) (d : Demand2 n E) where
   -- one that invents its read count, at a packet or at an end: what is told is the number of used records read
   pub not-inventing : (h : List (List ℕ)) (bytes key : List ℕ) → AllBytes (bytes ∷ h) → eventIn bytes ≡ asksKey 1 key
       → some (workingSet (E .roster h)) ≡ true → E .says h bytes .reads ≢ find key (E .table h) .reads → ⊥
-  not-inventing h bytes key b e works other = other (ap (λ (a : Told). a .reads) (d .packets h bytes key b e works .gets))
+  not-inventing h bytes key b e works other = other (ap (λ (a : Answer). a .reads) (d .packets h bytes key b e works .gets))
 
   pub end-counts : (h : List (List ℕ)) (bytes key : List ℕ) → AllBytes (bytes ∷ h) → eventIn bytes ≡ asksKey 2 key
       → E .says h bytes .reads ≡ find key (E .table h) .reads
   unfolding judged barred effect end
   end-counts h bytes key b e =
-      ap (λ (a : Told). a .reads) (unserved-seen n E d h bytes b (rw e) .told)
+      ap (λ (a : Answer). a .reads) (unserved-seen n E d h bytes b (rw e) .answer)
       ∙ rw e (both (find key (E .table h) .found) (λ f. rw f) (λ f. rw f))
 
   pub not-inventing-ends : (h : List (List ℕ)) (bytes key : List ℕ) → AllBytes (bytes ∷ h) → eventIn bytes ≡ asksKey 2 key
@@ -104,9 +104,9 @@ module _ (n : ℕ) (E : Engine) (d : Demand2 n E) where
       let p = d .packets waiting packetP keyP (refl, b) e works in
       let r′ : some (workingSet (E .roster (packetP ∷ waiting))) ≡ true = rw (p .keeps) works in
       let q = d .packets (packetP ∷ waiting) packetP keyP (refl, (refl, b)) e r′ in
-      let none : E .says waiting packetP .reads ≡ 0 = ap (λ (a : Told). a .reads) (waiting-packet n E d room) in
+      let none : E .says waiting packetP .reads ≡ 0 = ap (λ (a : Answer). a .reads) (waiting-packet n E d room) in
       let one : E .says (packetP ∷ waiting) packetP .reads ≡ 1 =
-      ap (λ (a : Told). a .reads) (q .gets) ∙ ap (λ (f : Finding). f .reads) (written-find n E d room) in
+      ap (λ (a : Answer). a .reads) (q .gets) ∙ ap (λ (f : Finding). f .reads) (written-find n E d room) in
       omega (arith, all waiting packetP keyP (refl, b) e works, all (packetP ∷ waiting) packetP keyP (refl, (refl, b)) e r′)
 
   pub not-fixed-ends : 20 ≤ n → (c : ℕ) → ((h : List (List ℕ)) (bytes key : List ℕ) → AllBytes (bytes ∷ h) → eventIn bytes ≡ asksKey 2 key

@@ -2,19 +2,19 @@
 use Prim.Native.Nat.{ℕ}
 use mathlib.Core.Bool.{true, false, _&&_}
 use mathlib.Core.List.{List, []}
-use mathlib.Core.Path.{_≡_, sym, _∙_}
-use lib.ListN.{length, replicate}
+use mathlib.Core.Path.{_≡_, sym, ap, _∙_}
+use lib.ListN.{length}
 use Rattle.sets.proofs.Cases.{both, not-so}
 use Rattle.ranking.specs.Ranking.{picked}
 use Rattle.roster.specs.Roster.{workingSet, horizon, emptyRoster}
 use Rattle.event.specs.Event.{asksKey, eventIn}
 use Rattle.event.proofs.Reading.{reading}
-use Rattle.table.specs.Table.{find}
+use Rattle.table.specs.Table.{find, started}
 use Rattle.ringplan.specs.Plan.{some}
-use Rattle.rules.specs.Rules.{Done, is, sizedFor, startOf, eventOf, judged, packet, barred, effect}
-use Rattle.histories.specs.Histories.{World, startAccepted, after}
+use Rattle.rules.specs.Rules.{World, worldWith, Done, is, sizedFor, startOf, eventOf, judged, packet, barred, effect}
+use Rattle.histories.specs.Histories.{begins, startAccepted, after}
 use Rattle.histories.proofs.Inner.{Inner}
-use Rattle.histories.proofs.Picking.{pickOf, pick-right}
+use Rattle.histories.proofs.Picking.{pickAt, pick-right}
 use Rattle.histories.proofs.Along.{event-judged, inner}
 use Rattle.histories.proofs.Never.{target-works}
 use Rattle.demands.specs.Demands.{ours, rankingOf, PacketRight, otherwise, Demand2}
@@ -24,7 +24,7 @@ use Rattle.demands.proofs.Others.{asked-packet, judged-same}
 module _ (w : World) (i : Inner w) where
   -- a packet while some server works is let through, and its pick is the ranking's
   packet-judged : (key : List ℕ) → some (workingSet (w .state .roster)) ≡ true
-      → judged (asksKey 1 key) (find key (w .state .table)) (pickOf w key) (w .state)
+      → judged (asksKey 1 key) (find key (w .state .table)) (pickAt w key) (w .state)
       ≡ packet key (find key (w .state .table)) (picked (rankingOf (w .state .roster) key) (workingSet (w .state .roster)) (horizon (w .state .roster))) (w .state)
   unfolding judged barred effect
   packet-judged key works =
@@ -33,10 +33,10 @@ module _ (w : World) (i : Inner w) where
 
   module _ (bytes : List ℕ) where
     abbrev done : Done
-    done = eventOf bytes (w .state) (w .ring)
+    done = eventOf bytes w
 
     packet-seen : (key : List ℕ) → eventIn bytes ≡ asksKey 1 key → some (workingSet (w .state .roster)) ≡ true
-        → PacketRight key (w .state .table) (w .state .roster) (done .told) (done .table) (done .roster)
+        → PacketRight key (w .state .table) (w .state .roster) (done .answer) (done .world .state .table) (done .world .state .roster)
     packet-seen key e works =
         let (s, m) = some-member (workingSet (w .state .roster)) works in
         let sized : length key ≡ 13 = rw e at (reading bytes .key-sized) in
@@ -45,13 +45,13 @@ module _ (w : World) (i : Inner w) where
 
     other-seen : ((key : List ℕ) → eventIn bytes ≡ asksKey 1 key → some (workingSet (w .state .roster)) ≡ true → ⊥)
         → let c = otherwise (eventIn bytes) (w .state .table) (w .state .roster) in
-        (done .told ≡ c .told) × (done .table ≡ c .state .table) × (done .roster ≡ c .state .roster)
+        (done .answer ≡ c .answer) × (done .world .state .table ≡ c .state .table) × (done .world .state .roster ≡ c .state .roster)
     other-seen n =
         let e = eventIn bytes in
         let none : is 1 e && some (workingSet (w .state .roster)) ≡ false =
         both (is 1 e) (λ k. rw k (not-so (λ works. n (e .key) (asked-packet bytes k) works))) (λ k. rw k) in
-        let same = judged-same e (find (e .key) (w .state .table)) (pickOf w (e .key)) (record { server = 0; flag = false }) (w .state) [] [] none in
-        rw (event-judged w (i .along) bytes) (same .told, same .table, same .roster)
+        let same = judged-same e (find (e .key) (w .state .table)) (pickAt w (e .key)) (record { server = 0; flag = false }) (w .state) [] [] none in
+        rw (event-judged w (i .along) bytes) (same .answer, same .table, same .roster)
 
 -- a start is accepted exactly where the sizes are right
 pub start-sizes : (w : World) → startAccepted w ≡ sizedFor (length (w .ring)) (w .state)
@@ -63,20 +63,16 @@ module _ (w : World) (a : startAccepted w ≡ true) where
   start-sized : sizedFor (length (w .ring)) (w .state) ≡ true
   start-sized = sym (start-sizes w) ∙ a
 
-  start-clear : after w [] .state .table ≡ replicate (length (w .state .table)) 0
+  start-leaves : after w [] ≡ worldWith (started (w .state .table)) (w .state .rows) (w .state .flags) (w .ring) emptyRoster
   unfolding after startOf
-  start-clear = rw start-sized
-
-  start-empty : after w [] .state .roster ≡ emptyRoster
-  unfolding after startOf
-  start-empty = rw start-sized
+  start-leaves = rw (start-sized, after, begins)
 
   pub ours-obeys : Demand2 (length (w .state .table)) (ours w)
   unfolding after
   ours-obeys =
       record {
-        startsClear = start-clear;
-        startsEmpty = start-empty;
+        startsClear = ap (λ (v : World). v .state .table) start-leaves;
+        startsEmpty = ap (λ (v : World). v .state .roster) start-leaves;
         packets = λ h bytes key b. packet-seen (after w h) (inner w a h (b .1)) bytes key;
         others = λ h bytes b. other-seen (after w h) (inner w a h (b .1)) bytes;
       }

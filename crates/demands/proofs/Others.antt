@@ -10,16 +10,16 @@ use Rattle.sets.proofs.Cases.{both, clash}
 use Rattle.ranking.specs.declared.Pick.{Pick}
 use Rattle.roster.specs.declared.Roster.{Roster}
 use Rattle.roster.specs.Roster.{workingSet}
-use Rattle.event.specs.Event.{Asked, asksKey, eventIn}
+use Rattle.event.specs.Event.{Request, asksKey, eventIn}
 use Rattle.event.proofs.Reading.{Outcome, refused, keyed, naming, configured, outcome}
 use Rattle.table.specs.Table.{Finding}
 use Rattle.ringplan.specs.Plan.{some}
-use Rattle.rules.specs.Answer.{Told}
+use Rattle.rules.specs.Answer.{Answer}
 use Rattle.rules.specs.Rules.{State, Change, is, barred, end, effect, judged}
 use Rattle.histories.proofs.Barring.{passed}
 
 -- a record that reads as a packet is one of its key
-keyed-packet : {l : List ℕ} {e : Asked} → Outcome l e → is 1 e ≡ true → e ≡ asksKey 1 (e .key)
+keyed-packet : {l : List ℕ} {e : Request} → Outcome l e → is 1 e ≡ true → e ≡ asksKey 1 (e .key)
 keyed-packet (refused n low high) k = clash k refl
 keyed-packet (keyed n low high long) k = rw (eqb-true n 1 k)
 keyed-packet (naming n low high some) k = absurd (omega (arith, eqb-true n 1 k))
@@ -29,19 +29,19 @@ pub asked-packet : (bytes : List ℕ) → is 1 (eventIn bytes) ≡ true → even
 asked-packet bytes = keyed-packet (outcome bytes)
 
 -- an answer with the table and roster after it are those of a change
-pub record Seen (c : Change) (a : Told) (t′ : List ℕ) (r′ : Roster) : Type 0 where
-  pub told : a ≡ c .told
+pub record Shows (c : Change) (a : Answer) (t′ : List ℕ) (r′ : Roster) : Type 0 where
+  pub answer : a ≡ c .answer
   pub table : t′ ≡ c .state .table
   pub roster : r′ ≡ c .state .roster
 
-seen-itself : (c : Change) → Seen c (c .told) (c .state .table) (c .state .roster)
-seen-itself c = record { told = refl; table = refl; roster = refl }
+seen-itself : (c : Change) → Shows c (c .answer) (c .state .table) (c .state .roster)
+seen-itself c = record { answer = refl; table = refl; roster = refl }
 
 -- two changes of which the same is seen
 abbrev pub Alike : Change → Change → Type 0
-Alike c d = Seen d (c .told) (c .state .table) (c .state .roster)
+Alike c d = Shows d (c .answer) (c .state .table) (c .state .roster)
 
-module _ (e : Asked) (found : Finding) (p q : Pick) (st : State) (rows flags : List ℕ) where
+module _ (e : Request) (found : Finding) (p q : Pick) (st : State) (rows flags : List ℕ) where
   abbrev instead : State
   instead = record { table = st .table; rows = rows; flags = flags; roster = st .roster }
 

@@ -112,7 +112,7 @@ module _ (key : List ℕ) (r : Roster) (s : ℕ) (works : member s (workingSet r
 -- so the packet is right whose pick is the ranking's
 pub packet-right : (key : List ℕ) (st : State) (s : ℕ) → member s (workingSet (st .roster)) ≡ true → length key ≡ 13 → noStray (st .table) ≡ true
     → let c = packet key (find key (st .table)) (picked (rankingOf (st .roster) key) (workingSet (st .roster)) (horizon (st .roster))) st in
-    PacketRight key (st .table) (st .roster) (c .told) (c .state .table) (c .state .roster)
+    PacketRight key (st .table) (st .roster) (c .answer) (c .state .table) (c .state .roster)
 unfolding packet
 packet-right key st s works k clean =
     let t = st .table in

@@ -17,9 +17,9 @@ use Rattle.event.specs.Event.{allBytes, eventIn, byKind, asksServer}
 use Rattle.table.specs.Table.{used}
 use Rattle.ring.specs.Ring.{blank}
 use Rattle.ringplan.specs.Plan.{some}
-use Rattle.rules.specs.Answer.{Told}
-use Rattle.rules.specs.Rules.{barred, effect, judged, sizesRight, sizedFor}
-use Rattle.histories.specs.Histories.{World, startAccepted, AllBytes}
+use Rattle.rules.specs.Answer.{Answer}
+use Rattle.rules.specs.Rules.{World, barred, effect, judged, sizesRight, sizedFor}
+use Rattle.histories.specs.Histories.{startAccepted, AllBytes}
 use Rattle.demands.specs.Demands.{Engine, ours, Demand2}
 use Rattle.demands.proofs.Obeys.{start-sizes, ours-obeys}
 use Rattle.demands.proofs.Same.{unserved-seen, same-engines, same-answers}
@@ -70,16 +70,16 @@ module _ (n : ℕ) (E : Engine) (d : Demand2 n E) where
       clash (rw still at entered) refl
 
   -- one that gives the same answer to whatever comes second
-  pub not-reciting : (a : Told) → ((first bytes : List ℕ) → AllBytes (bytes ∷ first ∷ []) → E .says (first ∷ []) bytes ≡ a) → ⊥
+  pub not-reciting : (a : Answer) → ((first bytes : List ℕ) → AllBytes (bytes ∷ first ∷ []) → E .says (first ∷ []) bytes ≡ a) → ⊥
   unfolding allBytes judged barred effect stateIn eventIn byKind asksServer allZero
   not-reciting a all =
       let again : E .says (stand 1 ∷ []) (stand 1) .accepted ≡ false =
-      ap (λ (x : Told). x .accepted) (unserved-seen n E d (stand 1 ∷ []) (stand 1) (refl, (refl, tt)) refl .told) ∙ rw stood in
+      ap (λ (x : Answer). x .accepted) (unserved-seen n E d (stand 1 ∷ []) (stand 1) (refl, (refl, tt)) refl .answer) ∙ rw stood in
       let enters : E .says (stand 1 ∷ []) (enter 1) .accepted ≡ true =
-      ap (λ (x : Told). x .accepted) (unserved-seen n E d (stand 1 ∷ []) (enter 1) (refl, (refl, tt)) refl .told) ∙ rw stood in
+      ap (λ (x : Answer). x .accepted) (unserved-seen n E d (stand 1 ∷ []) (enter 1) (refl, (refl, tt)) refl .answer) ∙ rw stood in
       clash
-      (ap (λ (x : Told). x .accepted) (sym (all (stand 1) (enter 1) (refl, (refl, tt)))) ∙ enters)
-      (ap (λ (x : Told). x .accepted) (sym (all (stand 1) (stand 1) (refl, (refl, tt)))) ∙ again)
+      (ap (λ (x : Answer). x .accepted) (sym (all (stand 1) (enter 1) (refl, (refl, tt)))) ∙ enters)
+      (ap (λ (x : Answer). x .accepted) (sym (all (stand 1) (stand 1) (refl, (refl, tt)))) ∙ again)
 
 -- demand 2 can be met at each size of table that a start accepts, so none of this is said of no engine at all
 abbrev pub blankWorld : ℕ → World

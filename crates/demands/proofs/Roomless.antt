@@ -11,7 +11,7 @@ use Rattle.sets.proofs.Cases.{both}
 use Rattle.ranking.specs.Ranking.{unsafe}
 use Rattle.roster.specs.declared.Roster.{Roster}
 use Rattle.roster.specs.Roster.{workingSet, horizon}
-use Rattle.event.specs.Event.{Asked, eventIn}
+use Rattle.event.specs.Event.{Request, eventIn}
 use Rattle.table.specs.Table.{find, room, packed, bytesOf, notNaming, removedServer}
 use Rattle.rules.specs.Rules.{State, is, barred, packet, end, effect, judged}
 use Rattle.histories.specs.Histories.{AllBytes}
@@ -28,7 +28,7 @@ module _ (n : ℕ) where
   removed-stays s = rw (clear-used n)
 
   -- nothing but a packet's record changes a table without records
-  effect-stays : (e : Asked) (r : Roster)
+  effect-stays : (e : Request) (r : Roster)
       → effect e (find (e .key) (replicate n 0)) (record { server = 0; flag = false }) (blank r) .state .table ≡ replicate n 0
   unfolding effect packet end
   effect-stays e r =
@@ -40,7 +40,7 @@ module _ (n : ℕ) where
       both (is 5 e) (λ k. rw (k₁, k₂, k₃, k₄, k)) (λ k₅.
       both (is 6 e) (λ k. rw (k₁, k₂, k₃, k₄, k₅, k)) (λ k. rw (k₁, k₂, k₃, k₄, k₅, k)))))))
 
-  other-stays : (e : Asked) (r : Roster) → otherwise e (replicate n 0) r .state .table ≡ replicate n 0
+  other-stays : (e : Request) (r : Roster) → otherwise e (replicate n 0) r .state .table ≡ replicate n 0
   unfolding judged
   other-stays e r =
       both (is 0 e) (λ k. rw k) (λ k.

@@ -17,12 +17,12 @@ use Rattle.table.specs.Table.{find, used, room}
 use Rattle.table.proofs.Records.{used-within}
 use Rattle.table.proofs.Finds.{missing-reads}
 use Rattle.ringplan.specs.Plan.{some}
-use Rattle.rules.specs.Answer.{Told, accepts}
+use Rattle.rules.specs.Answer.{Answer, accepts}
 use Rattle.rules.specs.Rules.{Change, is, packet}
 use Rattle.histories.specs.Histories.{AllBytes}
 use Rattle.demands.specs.Demands.{Engine, rankingOf, mover, Unsafe, PacketRight, otherwise, Demand2}
 use Rattle.demands.proofs.Packets.{some-member, flagged, unflagged}
-use Rattle.demands.proofs.Others.{Seen, asked-packet}
+use Rattle.demands.proofs.Others.{Shows, asked-packet}
 
 -- a packet as the rules have it with the ranking's pick, over a table and a roster
 abbrev pub ruled : List ℕ → List ℕ → Roster → Change
@@ -31,7 +31,7 @@ ruled key t r =
 
 -- what is right at a packet is that and nothing else
 module _ (key t : List ℕ) (r : Roster) (s : ℕ) (works : member s (workingSet r) ≡ true)
-    (a : Told) (t′ : List ℕ) (r′ : Roster) (p : PacketRight key t r a t′ r′) where
+    (a : Answer) (t′ : List ℕ) (r′ : Roster) (p : PacketRight key t r a t′ r′) where
   answer-is : (x m : ℕ) → mover key t r ≡ x → a .mark ≡ m → a ≡ accepts x m (find key t .reads)
   answer-is x m e k = p .gets ∙ rw (e, k)
 
@@ -43,12 +43,12 @@ module _ (key t : List ℕ) (r : Roster) (s : ℕ) (works : member s (workingSet
   marked-4 : find key t .found ≡ false → Unsafe key r → ltb (used t) (room t) ≡ false → a .mark ≡ 4
   marked-4 f u l = p .full f .1 (u, omega (arith, ltb-false (used t) (room t) l, used-within t))
 
-  pub packet-is : Seen (ruled key t r) a t′ r′
+  pub packet-is : Shows (ruled key t r) a t′ r′
   unfolding packet
   packet-is =
       let chosen = choice (rankingOf r key) (workingSet r) in
       both (find key t .found)
-      (λ f. rw f (record { told = answer-is _ 1 (rw f) (p .known f .0); table = p .known f .1; roster = p .keeps }))
+      (λ f. rw f (record { answer = answer-is _ 1 (rw f) (p .known f .0); table = p .known f .1; roster = p .keeps }))
       (λ f.
       let m : mover key t r ≡ chosen = rw f in
       both (unsafe (rankingOf r key) (workingSet r) (horizon r))
@@ -58,18 +58,18 @@ module _ (key t : List ℕ) (r : Roster) (s : ℕ) (works : member s (workingSet
       both (ltb (used t) (room t))
       (λ l.
       let k = marked-3 f c l in
-      rw (f, u, n, l) (record { told = answer-is chosen 3 m k ∙ rw n; table = p .written f .0 k .bytes ∙ rw m; roster = p .keeps }))
+      rw (f, u, n, l) (record { answer = answer-is chosen 3 m k ∙ rw n; table = p .written f .0 k .bytes ∙ rw m; roster = p .keeps }))
       (λ l.
       let k = marked-4 f c l in
-      rw (f, u, n, l) (record { told = answer-is chosen 4 m k ∙ rw n; table = p .fullKeeps f k; roster = p .keeps })))
+      rw (f, u, n, l) (record { answer = answer-is chosen 4 m k ∙ rw n; table = p .fullKeeps f k; roster = p .keeps })))
       (λ u.
       let c = p .safe f (unflagged key r s works u) in
-      rw (f, u) (record { told = answer-is chosen 2 m (c .0); table = c .1; roster = p .keeps })))
+      rw (f, u) (record { answer = answer-is chosen 2 m (c .0); table = c .1; roster = p .keeps })))
 
 -- what an engine that obeys shows after an event, from what it showed before
 module _ (n : ℕ) (E : Engine) (d : Demand2 n E) (h : List (List ℕ)) (bytes : List ℕ) (b : AllBytes (bytes ∷ h)) where
   pub packet-seen : (key : List ℕ) → eventIn bytes ≡ asksKey 1 key → some (workingSet (E .roster h)) ≡ true
-      → Seen (ruled key (E .table h) (E .roster h)) (E .says h bytes) (E .table (bytes ∷ h)) (E .roster (bytes ∷ h))
+      → Shows (ruled key (E .table h) (E .roster h)) (E .says h bytes) (E .table (bytes ∷ h)) (E .roster (bytes ∷ h))
   packet-seen key e works =
       let (s, m) = some-member (workingSet (E .roster h)) works in
       packet-is key (E .table h) (E .roster h) s m _ _ _ (d .packets h bytes key b e works)
@@ -79,16 +79,16 @@ module _ (n : ℕ) (E : Engine) (d : Demand2 n E) (h : List (List ℕ)) (bytes :
   served = is 1 (eventIn bytes) && some (workingSet (E .roster h))
 
   pub served-seen : served ≡ true
-      → Seen (ruled (eventIn bytes .key) (E .table h) (E .roster h)) (E .says h bytes) (E .table (bytes ∷ h)) (E .roster (bytes ∷ h))
+      → Shows (ruled (eventIn bytes .key) (E .table h) (E .roster h)) (E .says h bytes) (E .table (bytes ∷ h)) (E .roster (bytes ∷ h))
   served-seen v =
       let packet? : is 1 (eventIn bytes) ≡ true = both (is 1 (eventIn bytes)) (λ k. k) (λ k. clash (rw k at v) refl) in
       packet-seen (eventIn bytes .key) (asked-packet bytes packet?) (rw packet? at v)
 
   pub unserved-seen : served ≡ false
-      → Seen (otherwise (eventIn bytes) (E .table h) (E .roster h)) (E .says h bytes) (E .table (bytes ∷ h)) (E .roster (bytes ∷ h))
+      → Shows (otherwise (eventIn bytes) (E .table h) (E .roster h)) (E .says h bytes) (E .table (bytes ∷ h)) (E .roster (bytes ∷ h))
   unserved-seen v =
       let o = d .others h bytes b (λ key e works. clash (rw (e, works)) v) in
-      record { told = o .0; table = o .1; roster = o .2 }
+      record { answer = o .0; table = o .1; roster = o .2 }
 
 module _ (n : ℕ) (E G : Engine) (d : Demand2 n E) (g : Demand2 n G) where
   same-next : (h : List (List ℕ)) (bytes : List ℕ) → AllBytes (bytes ∷ h) → E .table h ≡ G .table h → E .roster h ≡ G .roster h
@@ -98,11 +98,11 @@ module _ (n : ℕ) (E G : Engine) (d : Demand2 n E) (g : Demand2 n G) where
       (λ v.
       let x = served-seen n E d h bytes b v in
       let y = rw (← t, ← r) at (served-seen n G g h bytes b (rw r at v)) in
-      (x .told ∙ sym (y .told), x .table ∙ sym (y .table), x .roster ∙ sym (y .roster)))
+      (x .answer ∙ sym (y .answer), x .table ∙ sym (y .table), x .roster ∙ sym (y .roster)))
       (λ v.
       let x = unserved-seen n E d h bytes b v in
       let y = rw (← t, ← r) at (unserved-seen n G g h bytes b (rw r at v)) in
-      (x .told ∙ sym (y .told), x .table ∙ sym (y .table), x .roster ∙ sym (y .roster)))
+      (x .answer ∙ sym (y .answer), x .table ∙ sym (y .table), x .roster ∙ sym (y .roster)))
 
   pub same-engines : (h : List (List ℕ)) → AllBytes h → (E .table h ≡ G .table h) × (E .roster h ≡ G .roster h)
   same-engines [] b = (d .startsClear ∙ sym (g .startsClear), d .startsEmpty ∙ sym (g .startsEmpty))

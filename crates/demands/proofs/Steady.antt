@@ -9,11 +9,11 @@ use lib.ListN.{length}
 use Rattle.sets.specs.Sets.{member}
 use Rattle.settings.specs.declared.Settings.{Settings}
 use Rattle.roster.specs.Roster.{stateOf, working, heldServers, workingSet}
-use Rattle.event.specs.Event.{Asked, asksKey, eventIn}
+use Rattle.event.specs.Event.{Request, asksKey, eventIn}
 use Rattle.event.proofs.Reading.{reading}
 use Rattle.table.specs.Table.{entries}
-use Rattle.rules.specs.Rules.{settled, eventOf}
-use Rattle.histories.specs.Histories.{World, startAccepted, after, answer, AllBytes, Distinct, AllWorking}
+use Rattle.rules.specs.Rules.{World, settled, eventOf}
+use Rattle.histories.specs.Histories.{startAccepted, after, answer, AllBytes, Distinct, AllWorking}
 use Rattle.histories.proofs.Along.{event-judged, inner, along}
 use Rattle.demands.specs.Demands.{ours, Throughout, Demand3}
 use Rattle.demands.proofs.SteadyEvents.{changeOf, served-accepted, goes}
@@ -46,13 +46,13 @@ fair-throughout w key m P h (bytes ∷ between) a b c = (
 module _ (w : World) (s : startAccepted w ≡ true) where
   -- an event of a history is judged as its bytes ask
   event-at : (h : List (List ℕ)) → AllBytes h → (bytes : List ℕ)
-      → eventOf bytes (after w h .state) (after w h .ring) ≡ settled (changeOf (after w h) (eventIn bytes)) (after w h .ring)
+      → eventOf bytes (after w h) ≡ settled (changeOf (after w h) (eventIn bytes)) (after w h .ring)
   event-at h b bytes = event-judged (after w h) (along w s h b) bytes
 
   packet-at : (h : List (List ℕ)) → AllBytes h → (bytes key : List ℕ) → eventIn bytes ≡ asksKey 1 key
-      → eventOf bytes (after w h .state) (after w h .ring) ≡ settled (changeOf (after w h) (asksKey 1 key)) (after w h .ring)
+      → eventOf bytes (after w h) ≡ settled (changeOf (after w h) (asksKey 1 key)) (after w h .ring)
   packet-at h b bytes key q =
-      event-at h b bytes ∙ ap (λ (e : Asked). settled (changeOf (after w h) e) (after w h .ring)) q
+      event-at h b bytes ∙ ap (λ (e : Request). settled (changeOf (after w h) e) (after w h .ring)) q
 
   module _ (key : List ℕ) (m : ℕ) (P : ℕ → Type 0) where
     -- what is kept at one moment is kept over any fair events after it
@@ -66,7 +66,7 @@ module _ (w : World) (s : startAccepted w ≡ true) where
         let v = after w g in
         let q = event-at g (b .1) bytes in
         let k′ = kept-between d h between (b .1) (f .1) k in
-        rw q (kept-after v (inner w s g (b .1)) key (reading bytes .key-sized) (goes v bytes) d P m (rw q at (f .0)) k′)
+        rw (q, after) (kept-after v (inner w s g (b .1)) key (reading bytes .key-sized) (goes v bytes) d P m (rw (q, FairAt, after) at (f .0)) k′)
 
     -- demand 3 for any servers P that were all held at the earlier packet
     pub steady-within : (h between : List (List ℕ)) (earlier later : List ℕ) → AllBytes (later ∷ (between ++ (earlier ∷ h)))
@@ -84,7 +84,7 @@ module _ (w : World) (s : startAccepted w ≡ true) where
         let k₁ = kept-first v (inner w s h (b₁ .1)) key sized (served-accepted v key (rw (q₁, answer) at a)) (rw (q₁, answer) at r) P within in
         let d = v .state .roster .settings in
         let k₂ : Kept d P key m (after w (earlier ∷ h) .state .table) (after w (earlier ∷ h) .state .roster) =
-        rw (q₁, ← (rw (q₁, answer) at g)) k₁ in
+        rw (q₁, after, ← (rw (q₁, answer) at g)) k₁ in
         let l = between ++ (earlier ∷ h) in
         let k₃ = kept-between d (earlier ∷ h) between (b .1) f k₂ in
         let (x, y) = kept-last (after w l) (inner w s l (b .1)) key d P m k₃ in

@@ -18,11 +18,10 @@ use Rattle.roster.proofs.Sets.{working-state}
 use Rattle.roster.proofs.Bounds.{working-below}
 use Rattle.roster.proofs.Changes.{removedWorking-state, addedHorizon-settings}
 use Rattle.roster.proofs.Removed.{removedHorizon-settings}
-use Rattle.event.specs.Event.{Asked, asksKey}
-use Rattle.rules.specs.Rules.{Change}
-use Rattle.histories.specs.Histories.{World}
+use Rattle.event.specs.Event.{Request, asksKey}
+use Rattle.rules.specs.Rules.{World, Change}
 use Rattle.histories.proofs.Inner.{Inner}
-use Rattle.histories.proofs.Picking.{pickOf}
+use Rattle.histories.proofs.Picking.{pickAt}
 use Rattle.demands.proofs.SteadyRecords.{recordOf, record-missing, record-appended, record-new, record-removed, record-others, record-still}
 use Rattle.demands.proofs.SteadyEvents.{Served, known, safe, written, full, Goes, turned, served, ended, unknown, entered, left, stood, went, set}
 
@@ -43,7 +42,7 @@ module _ (w : World) (i : Inner w) where
   served-roster (written f q l) = refl
   served-roster full = refl
 
-  module _ {e : Asked} (sized : length (e .key) ≡ 13) where
+  module _ {e : Request} (sized : length (e .key) ≡ 13) where
     -- the settings stay while any server works
     pub keeps-settings : {c : Change} → Goes w e c → (m : ℕ) → stateOf m (w .state .roster) ≡ working
         → c .state .roster .settings ≡ w .state .roster .settings
@@ -64,7 +63,7 @@ module _ (w : World) (i : Inner w) where
     keeps-record (served (known g s)) key m n₂ q f = f
     keeps-record (served (safe g s u)) key m n₂ q f = f
     keeps-record (served (written g s l)) key m n₂ q f =
-        record-appended key (w .state .table) (i .along .clean) l (e .key) (pickOf w (e .key) .server) sized m f
+        record-appended key (w .state .table) (i .along .clean) l (e .key) (pickAt w (e .key) .server) sized m f
     keeps-record (served full) key m n₂ q f = f
     keeps-record (ended a g) key m n₂ q f =
         record-removed key (w .state .table) (e .key) g (not-so (λ t. n₂ (a ∙ ap (asksKey 2) (same-equal (e .key) key t)))) ∙ f
@@ -82,16 +81,16 @@ module _ (w : World) (i : Inner w) where
 
     -- a key without a record gets none, or one that names its pick
     pub keeps-none : {c : Change} → Goes w e c → (key : List ℕ) → recordOf key (w .state .table) ≡ none
-        → (recordOf key (c .state .table) ≡ none) ⊎ (recordOf key (c .state .table) ≡ some (pickOf w key .server))
+        → (recordOf key (c .state .table) ≡ none) ⊎ (recordOf key (c .state .table) ≡ some (pickAt w key .server))
     keeps-none (turned n) key f = inl f
     keeps-none (served (known g s)) key f = inl f
     keeps-none (served (safe g s u)) key f = inl f
     keeps-none (served (written g s l)) key f =
-        let p = pickOf w (e .key) .server in
+        let p = pickAt w (e .key) .server in
         let new = record-new key (w .state .table) (i .along .clean) l (e .key) p sized (works-fits p s) f in
         both
         (same (e .key) key)
-        (λ t. inr (new ∙ rw t (ap (λ (k : List ℕ). some (pickOf w k .server)) (same-equal (e .key) key t))))
+        (λ t. inr (new ∙ rw t (ap (λ (k : List ℕ). some (pickAt w k .server)) (same-equal (e .key) key t))))
         (λ t. inl (new ∙ rw t))
     keeps-none (served full) key f = inl f
     keeps-none (ended a g) key f =

@@ -8,14 +8,13 @@ use lib.Dec.{eqb, ltb}
 use borrow.Author.Tests.{eqb-true, eqb-false, eq-eqb, ltb-true, not-true}
 use Rattle.sets.proofs.Cases.{both, clash}
 use Rattle.roster.specs.Roster.{working, standby, stateOf, addedWorking, removedWorking, addedHorizon, removedHorizon}
-use Rattle.event.specs.Event.{Asked, asksKey, eventIn}
+use Rattle.event.specs.Event.{Request, asksKey, eventIn}
 use Rattle.event.proofs.Reading.{Outcome, refused as refused-record, keyed, naming, configured as configured-record, outcome, reading}
 use Rattle.table.specs.Table.{find, serverAt, used, room, appended, removed, removedServer}
 use Rattle.table.proofs.Finds.{missing-reads}
 use Rattle.rules.specs.Answer.{accepts}
-use Rattle.rules.specs.Rules.{State, Change, is, empty, target, barred, refused, answered, packet, end, changed, configured, effect, judged}
-use Rattle.histories.specs.Histories.{World}
-use Rattle.histories.proofs.Picking.{pickOf}
+use Rattle.rules.specs.Rules.{World, State, Change, is, empty, target, barred, refused, answered, packet, end, changed, configured, effect, judged}
+use Rattle.histories.proofs.Picking.{pickAt}
 use Rattle.histories.proofs.Barring.{Passed, passed}
 
 -- an accepted packet of a key: led to its record's server, or to the pick, and then perhaps recorded
@@ -27,19 +26,19 @@ pub data Served (w : World) (key : List ℕ) : Change → Type 0 where
       (accepts (serverAt (find key (w .state .table) .reads) (w .state .table)) 1 (find key (w .state .table) .reads))
       (w .state .table)
       (w .state))
-  safe : find key (w .state .table) .found ≡ false → stateOf (pickOf w key .server) (w .state .roster) ≡ working → pickOf w key .flag ≡ false
-      → Served w key (answered (accepts (pickOf w key .server) 2 (find key (w .state .table) .reads)) (w .state .table) (w .state))
-  written : find key (w .state .table) .found ≡ false → stateOf (pickOf w key .server) (w .state .roster) ≡ working
+  safe : find key (w .state .table) .found ≡ false → stateOf (pickAt w key .server) (w .state .roster) ≡ working → pickAt w key .flag ≡ false
+      → Served w key (answered (accepts (pickAt w key .server) 2 (find key (w .state .table) .reads)) (w .state .table) (w .state))
+  written : find key (w .state .table) .found ≡ false → stateOf (pickAt w key .server) (w .state .roster) ≡ working
       → used (w .state .table) < room (w .state .table)
       → Served w key
       (answered
-      (accepts (pickOf w key .server) 3 (used (w .state .table)))
-      (appended key (pickOf w key .server) (w .state .table))
+      (accepts (pickAt w key .server) 3 (used (w .state .table)))
+      (appended key (pickAt w key .server) (w .state .table))
       (w .state))
-  full : Served w key (answered (accepts (pickOf w key .server) 4 (find key (w .state .table) .reads)) (w .state .table) (w .state))
+  full : Served w key (answered (accepts (pickAt w key .server) 4 (find key (w .state .table) .reads)) (w .state .table) (w .state))
 
 -- any event
-pub data Goes (w : World) (e : Asked) : Change → Type 0 where
+pub data Goes (w : World) (e : Request) : Change → Type 0 where
   turned : (n : ℕ) → Goes w e (refused n (w .state))
   served : {c : Change} → Served w (e .key) c → Goes w e c
   ended : e ≡ asksKey 2 (e .key) → find (e .key) (w .state .table) .found ≡ true
@@ -59,11 +58,11 @@ pub data Goes (w : World) (e : Asked) : Change → Type 0 where
 
 -- ---- every event comes to one of these
 
-abbrev pub changeOf : World → Asked → Change
-changeOf w e = judged e (find (e .key) (w .state .table)) (pickOf w (e .key)) (w .state)
+abbrev pub changeOf : World → Request → Change
+changeOf w e = judged e (find (e .key) (w .state .table)) (pickAt w (e .key)) (w .state)
 
 -- a record of kind 2 asks for the end of its key
-end-asks : {l : List ℕ} {e : Asked} → Outcome l e → e .kind ≡ 2 → e ≡ asksKey 2 (e .key)
+end-asks : {l : List ℕ} {e : Request} → Outcome l e → e .kind ≡ 2 → e ≡ asksKey 2 (e .key)
 end-asks (refused-record n low high) k = absurd (omega arith)
 end-asks {l} (keyed n low high s) k = rw k
 end-asks (naming n low high s) k = absurd (omega arith)
@@ -88,14 +87,14 @@ last-kind k small k₀ k₁ k₂ k₃ k₄ k₅ k₆ =
 module _ (w : World) where
   -- a packet that is led to a working server
   pub served-packet : (key : List ℕ)
-      → stateOf (target (find key (w .state .table)) (pickOf w key) (w .state)) (w .state .roster) ≡ working
-      → Served w key (packet key (find key (w .state .table)) (pickOf w key) (w .state))
+      → stateOf (target (find key (w .state .table)) (pickAt w key) (w .state)) (w .state .roster) ≡ working
+      → Served w key (packet key (find key (w .state .table)) (pickAt w key) (w .state))
   unfolding packet
   served-packet key s =
       let t = w .state .table in
       both (find key t .found) (λ a. rw a (known a (rw a at s))) (λ a.
-      both (not (pickOf w key .flag))
-      (λ b. rw (a, b) (safe a (rw a at s) (not-true (pickOf w key .flag) b)))
+      both (not (pickAt w key .flag))
+      (λ b. rw (a, b) (safe a (rw a at s) (not-true (pickAt w key .flag) b)))
       (λ b.
       both (ltb (find key t .reads) (room t))
       (λ c.
@@ -103,14 +102,14 @@ module _ (w : World) where
       rw (a, b, c, missing-reads key t a) (written a (rw a at s) (ltb-true (used t) (room t) u)))
       (λ c. rw (a, b, c) full)))
 
-  module _ (e : Asked) (ends : e .kind ≡ 2 → e ≡ asksKey 2 (e .key)) where
+  module _ (e : Request) (ends : e .kind ≡ 2 → e ≡ asksKey 2 (e .key)) where
     goes-end : is 2 e ≡ true → Goes w e (end (find (e .key) (w .state .table)) (w .state))
     unfolding end
     goes-end k =
         both (find (e .key) (w .state .table) .found) (λ f. rw f (ended (ends (eqb-true (e .kind) 2 k)) f)) (λ f. rw f unknown)
 
-    goes-effect : e .kind ≤ 7 → is 0 e ≡ false → Passed e (find (e .key) (w .state .table)) (pickOf w (e .key)) (w .state)
-        → Goes w e (effect e (find (e .key) (w .state .table)) (pickOf w (e .key)) (w .state))
+    goes-effect : e .kind ≤ 7 → is 0 e ≡ false → Passed e (find (e .key) (w .state .table)) (pickAt w (e .key)) (w .state)
+        → Goes w e (effect e (find (e .key) (w .state .table)) (pickAt w (e .key)) (w .state))
     unfolding effect
     goes-effect small k₀ p =
         both (is 1 e) (λ k. rw k (served (served-packet (e .key) (p .led k)))) (λ k₁.
@@ -125,7 +124,7 @@ module _ (w : World) where
     unfolding judged
     goes-judged small =
         let found = find (e .key) (w .state .table) in
-        let pick = pickOf w (e .key) in
+        let pick = pickAt w (e .key) in
         both (is 0 e) (λ z. rw z (turned (e .refusal))) (λ z.
         both (eqb (barred e found pick (w .state)) 0)
         (λ q. rw (z, q) (goes-effect small z (passed e found pick (w .state) (eqb-true (barred e found pick (w .state)) 0 q))))
@@ -133,13 +132,13 @@ module _ (w : World) where
 
   -- a packet that is accepted
   pub served-accepted : (key : List ℕ)
-      → changeOf w (asksKey 1 key) .told .accepted ≡ true
+      → changeOf w (asksKey 1 key) .answer .accepted ≡ true
       → Served w key (changeOf w (asksKey 1 key))
   unfolding judged effect
   served-accepted key a =
       let e = asksKey 1 key in
       let found = find key (w .state .table) in
-      let pick = pickOf w key in
+      let pick = pickAt w key in
       both (eqb (barred e found pick (w .state)) 0)
       (λ q. rw q (served-packet key (passed e found pick (w .state) (eqb-true (barred e found pick (w .state)) 0 q) .led refl)))
       (λ q. clash (rw q at a) refl)

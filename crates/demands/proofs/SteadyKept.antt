@@ -19,13 +19,13 @@ use Rattle.settings.specs.declared.Settings.{Settings}
 use Rattle.roster.specs.declared.Roster.{Roster}
 use Rattle.roster.specs.Roster.{working, stateOf, heldServers, workingSet, horizon}
 use Rattle.roster.proofs.Sets.{held-sets}
-use Rattle.event.specs.Event.{Asked, asksKey}
+use Rattle.event.specs.Event.{Request, asksKey}
 use Rattle.table.specs.Table.{find, room}
 use Rattle.ringplan.specs.Plan.{some as any}
-use Rattle.rules.specs.Rules.{Change, target, barred, packet, effect, judged}
-use Rattle.histories.specs.Histories.{World, rankingFor}
+use Rattle.rules.specs.Rules.{World, Change, target, barred, packet, effect, judged}
+use Rattle.histories.specs.Histories.{rankingFor}
 use Rattle.histories.proofs.Inner.{Inner}
-use Rattle.histories.proofs.Picking.{pickOf, ranking-strict, pick-right}
+use Rattle.histories.proofs.Picking.{pickAt, ranking-strict, pick-right}
 use Rattle.demands.proofs.SteadyRecords.{recordOf, found-record, missing-record, record-found, record-missing, record-new}
 use Rattle.demands.proofs.SteadyEvents.{Served, known, safe, written, full, Goes, changeOf}
 use Rattle.demands.proofs.SteadyChanges.{works-member, works-fits, keeps-settings, keeps-record, keeps-none}
@@ -38,7 +38,7 @@ pub data Kept (c : Settings) (P : ℕ → Type 0) (key : List ℕ) (m : ℕ) (t 
       → ((x : ℕ) → member x (workingSet r) ≡ true → rankingFor c key x m ≡ false) → Kept c P key m t r
 
 -- the provisos at one event e, which led from roster r to r′
-pub record Fair (P : ℕ → Type 0) (key : List ℕ) (m : ℕ) (r : Roster) (e : Asked) (r′ : Roster) : Type 0 where
+pub record Fair (P : ℕ → Type 0) (key : List ℕ) (m : ℕ) (r : Roster) (e : Request) (r′ : Roster) : Type 0 where
   pub works : stateOf m r′ ≡ working
   pub unended : e ≢ asksKey 2 key
   pub brought : (x : ℕ) → member x (workingSet r′) ≡ true → member x (workingSet r) ≡ false → P x
@@ -50,14 +50,14 @@ member-any x (y ∷ l) m = refl
 module _ (w : World) (i : Inner w) (key : List ℕ) where
   -- a working server that no working one outranks is the pick
   pick-tops : (c : Settings) (m : ℕ) → w .state .roster .settings ≡ c → stateOf m (w .state .roster) ≡ working
-      → ((x : ℕ) → member x (workingSet (w .state .roster)) ≡ true → rankingFor c key x m ≡ false) → pickOf w key .server ≡ m
+      → ((x : ℕ) → member x (workingSet (w .state .roster)) ≡ true → rankingFor c key x m ≡ false) → pickAt w key .server ≡ m
   pick-tops c m s q top =
       let works = works-member w i m q in
       ap (λ (p : Pick). p .server) (pick-right w i key m works)
       ∙ rw s (choice-only (rankingFor c key) (ranking-strict c key) m (workingSet (w .state .roster)) works top)
 
   -- one event
-  pub kept-after : {e : Asked} {c : Change} → length (e .key) ≡ 13 → Goes w e c → (d : Settings) (P : ℕ → Type 0) (m : ℕ)
+  pub kept-after : {e : Request} {c : Change} → length (e .key) ≡ 13 → Goes w e c → (d : Settings) (P : ℕ → Type 0) (m : ℕ)
       → Fair P key m (w .state .roster) e (c .state .roster)
       → Kept d P key m (w .state .table) (w .state .roster) → Kept d P key m (c .state .table) (c .state .roster)
   kept-after n g d P m a (recorded s q f) =
@@ -71,20 +71,20 @@ module _ (w : World) (i : Inner w) (key : List ℕ) where
       (keeps-none w i n g key f)
 
   -- the earlier packet, for servers all of whom were held at it
-  pub kept-first : {c : Change} → length key ≡ 13 → Served w key c → c .told .mark ≢ 4 → (P : ℕ → Type 0)
+  pub kept-first : {c : Change} → length key ≡ 13 → Served w key c → c .answer .mark ≢ 4 → (P : ℕ → Type 0)
       → ((x : ℕ) → P x → member x (heldServers (w .state .roster)) ≡ true)
-      → Kept (w .state .roster .settings) P key (c .told .server) (c .state .table) (c .state .roster)
+      → Kept (w .state .roster .settings) P key (c .answer .server) (c .state .table) (c .state .roster)
   kept-first n (known f q) r P within = recorded refl q (found-record key (w .state .table) f)
   kept-first n (safe f q u) r P within =
       let ro = w .state .roster in
       let R = rankingFor (ro .settings) key in
       let S = ranking-strict (ro .settings) key in
-      let works = works-member w i (pickOf w key .server) q in
-      let p = pick-right w i key (pickOf w key .server) works in
-      let server : choice R (workingSet ro) ≡ pickOf w key .server = sym (ap (λ (x : Pick). x .server) p) in
+      let works = works-member w i (pickAt w key .server) q in
+      let p = pick-right w i key (pickAt w key .server) works in
+      let server : choice R (workingSet ro) ≡ pickAt w key .server = sym (ap (λ (x : Pick). x .server) p) in
       let flag : outranked R (choice R (workingSet ro)) (horizon ro) ≡ false =
-      sym (unsafe-outranked R S (pickOf w key .server) (workingSet ro) (horizon ro) works) ∙ sym (ap (λ (x : Pick). x .flag) p) ∙ u in
-      let top : (x : ℕ) → member x (workingSet ro) ≡ true → R x (pickOf w key .server) ≡ false =
+      sym (unsafe-outranked R S (pickAt w key .server) (workingSet ro) (horizon ro) works) ∙ sym (ap (λ (x : Pick). x .flag) p) ∙ u in
+      let top : (x : ℕ) → member x (workingSet ro) ≡ true → R x (pickAt w key .server) ≡ false =
       λ x h. rw (← server) (choice-tops R S x (workingSet ro) h) in
       unmoved refl q (missing-record key (w .state .table) f)
       (λ x h.
@@ -96,7 +96,7 @@ module _ (w : World) (i : Inner w) (key : List ℕ) where
       (λ y. rw (← server) (outranked-none R (choice R (workingSet ro)) x (horizon ro) flag y)))
       top
   kept-first n (written f q l) r P within =
-      let p = pickOf w key .server in
+      let p = pickAt w key .server in
       recorded refl q
       (record-new key (w .state .table) (i .along .clean) l key p n (works-fits w i p q) (missing-record key (w .state .table) f)
       ∙ rw (same-self key))
@@ -104,31 +104,31 @@ module _ (w : World) (i : Inner w) (key : List ℕ) where
 
   -- where a packet of the key is led
   kept-target : (d : Settings) (P : ℕ → Type 0) (m : ℕ) → Kept d P key m (w .state .table) (w .state .roster)
-      → (stateOf m (w .state .roster) ≡ working) × (target (find key (w .state .table)) (pickOf w key) (w .state) ≡ m)
+      → (stateOf m (w .state .roster) ≡ working) × (target (find key (w .state .table)) (pickAt w key) (w .state) ≡ m)
   kept-target d P m (recorded s q f) = let (a, b) = record-found key (w .state .table) m f in (q, rw a b)
   kept-target d P m (unmoved s q f top topw) = (q, rw (record-missing key (w .state .table) f) (pick-tops d m s q topw))
 
   -- an accepted packet is given the server that it is led to
-  packet-led : (packet key (find key (w .state .table)) (pickOf w key) (w .state) .told .accepted ≡ true)
-      × (packet key (find key (w .state .table)) (pickOf w key) (w .state) .told .server
-      ≡ target (find key (w .state .table)) (pickOf w key) (w .state))
+  packet-led : (packet key (find key (w .state .table)) (pickAt w key) (w .state) .answer .accepted ≡ true)
+      × (packet key (find key (w .state .table)) (pickAt w key) (w .state) .answer .server
+      ≡ target (find key (w .state .table)) (pickAt w key) (w .state))
   unfolding packet
   packet-led =
       both (find key (w .state .table) .found) (λ a. rw a (refl, refl)) (λ a.
-      both (not (pickOf w key .flag)) (λ b. rw (a, b) (refl, refl)) (λ b.
+      both (not (pickAt w key .flag)) (λ b. rw (a, b) (refl, refl)) (λ b.
       both (ltb (find key (w .state .table) .reads) (room (w .state .table))) (λ c. rw (a, b, c) (refl, refl)) (λ c. rw (a, b, c) (refl, refl))))
 
   -- nothing bars a packet that is led to a working server
   packet-unbarred : any (workingSet (w .state .roster)) ≡ true
-      → stateOf (target (find key (w .state .table)) (pickOf w key) (w .state)) (w .state .roster) ≡ working
-      → barred (asksKey 1 key) (find key (w .state .table)) (pickOf w key) (w .state) ≡ 0
+      → stateOf (target (find key (w .state .table)) (pickAt w key) (w .state)) (w .state .roster) ≡ working
+      → barred (asksKey 1 key) (find key (w .state .table)) (pickAt w key) (w .state) ≡ 0
   unfolding barred
   packet-unbarred a b = rw (a, b)
 
   -- the later packet
   pub kept-last : (d : Settings) (P : ℕ → Type 0) (m : ℕ) → Kept d P key m (w .state .table) (w .state .roster)
-      → (changeOf w (asksKey 1 key) .told .accepted ≡ true)
-      × (changeOf w (asksKey 1 key) .told .server ≡ m)
+      → (changeOf w (asksKey 1 key) .answer .accepted ≡ true)
+      × (changeOf w (asksKey 1 key) .answer .server ≡ m)
   unfolding judged effect
   kept-last d P m k =
       let (q, t) = kept-target d P m k in

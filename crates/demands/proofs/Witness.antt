@@ -93,11 +93,11 @@ unfolding judged barred effect addedHorizon putIn before stateIn restated eventI
 joined-plainly n = (refl, refl)
 
 -- what the rules make of a packet of P
-safe-ruled : (n : ℕ) → ruled keyP (replicate n 0) bothWork .told ≡ accepts 2 2 0
+safe-ruled : (n : ℕ) → ruled keyP (replicate n 0) bothWork .answer ≡ accepts 2 2 0
 unfolding packet inState weight F stirAll stir
 safe-ruled n = rw (clear-find n keyP)
 
-written-ruled : (n : ℕ) → 20 ≤ n → ruled keyP (replicate n 0) oneWaits .told ≡ accepts 1 3 0
+written-ruled : (n : ℕ) → 20 ≤ n → ruled keyP (replicate n 0) oneWaits .answer ≡ accepts 1 3 0
 unfolding packet inState weight F stirAll stir
 written-ruled n h =
     let l : ltb 0 (room (replicate n 0)) ≡ true = rw (length-replicate {A = ℕ} n 0) (lt-ltb 0 (n / 20) (omega arith)) in
@@ -127,7 +127,7 @@ module _ (n : ℕ) (E : Engine) (d : Demand2 n E) where
   unfolding inState allBytes
   joined-packet =
       let (t, r) = joined-seen in
-      packet-seen n E d joined packetP (refl, joined-bytes) keyP (packet-reads keyP refl) (rw r) .told ∙ rw (t, r) (safe-ruled n)
+      packet-seen n E d joined packetP (refl, joined-bytes) keyP (packet-reads keyP refl) (rw r) .answer ∙ rw (t, r) (safe-ruled n)
 
   -- and to 1 while 2 waits, who outranks it: a record is written where the table has room for one
   module _ (h : 20 ≤ n) where
@@ -135,7 +135,7 @@ module _ (n : ℕ) (E : Engine) (d : Demand2 n E) where
     unfolding inState allBytes
     waiting-packet =
         let (t, r) = waiting-seen in
-        packet-seen n E d waiting packetP (refl, joined-bytes .1) keyP (packet-reads keyP refl) (rw r) .told ∙ rw (t, r) (written-ruled n h)
+        packet-seen n E d waiting packetP (refl, joined-bytes .1) keyP (packet-reads keyP refl) (rw r) .answer ∙ rw (t, r) (written-ruled n h)
 
     pub waiting-written : Written keyP (mover keyP (E .table waiting) (E .roster waiting)) (E .table waiting) (E .table (packetP ∷ waiting))
     unfolding inState allBytes

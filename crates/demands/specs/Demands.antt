@@ -9,19 +9,19 @@ use Rattle.sets.specs.Sets.{member}
 use Rattle.ranking.specs.Ranking.{Ranking, choice, SomeChange}
 use Rattle.roster.specs.declared.Roster.{Roster}
 use Rattle.roster.specs.Roster.{stateOf, working, heldServers, workingSet, horizon, emptyRoster}
-use Rattle.event.specs.Event.{Asked, allBytes, asksKey, eventIn}
+use Rattle.event.specs.Event.{Request, allBytes, asksKey, eventIn}
 use Rattle.table.specs.Table.{find, serverAt, used, room, usedPart, newRecord, appended}
 use Rattle.ringplan.specs.Plan.{some}
-use Rattle.rules.specs.Answer.{Told, accepts}
-use Rattle.rules.specs.Rules.{State, Change, judged}
-use Rattle.histories.specs.Histories.{World, after, answer, AllBytes, rankingFor}
+use Rattle.rules.specs.Answer.{Answer, accepts}
+use Rattle.rules.specs.Rules.{World, State, Change, judged}
+use Rattle.histories.specs.Histories.{after, answer, AllBytes, rankingFor}
 
 -- what is seen of an engine after a history of event records, the newest first: its lent table and the roster it returned; and its
 -- answer to the next record
 pub record Engine : Type 0 where
   pub table : List (List ℕ) → List ℕ
   pub roster : List (List ℕ) → Roster
-  pub says : List (List ℕ) → List ℕ → Told
+  pub says : List (List ℕ) → List ℕ → Answer
 
 -- our engine: what is seen of the balancer, by the promises of `start` and `event`, from any former world w
 abbrev pub ours : World → Engine
@@ -54,7 +54,7 @@ pub record Written (key : List ℕ) (s : ℕ) (t t′ : List ℕ) : Type 0 where
   pub bytes : t′ ≡ appended key s t
 
 -- "each packet gets, while any mover works, ..": a packet of a key, the table and roster before it, the answer, the table and roster after it
-pub record PacketRight (key t : List ℕ) (r : Roster) (a : Told) (t′ : List ℕ) (r′ : Roster) : Type 0 where
+pub record PacketRight (key t : List ℕ) (r : Roster) (a : Answer) (t′ : List ℕ) (r′ : Roster) : Type 0 where
   -- accepted, with the mover that the rule gives and the number of used records read
   pub gets : a ≡ accepts (mover key t r) (a .mark) (find key t .reads)
   pub keeps : r′ ≡ r
@@ -72,7 +72,7 @@ pub record PacketRight (key t : List ℕ) (r : Roster) (a : Told) (t′ : List �
 
 -- every other event, and a packet while no mover works: exact refusals, marks, reads, table and roster, as the rules give them. They look at
 -- no row, flag or ring entry there, so empty ones are handed in.
-abbrev pub otherwise : Asked → List ℕ → Roster → Change
+abbrev pub otherwise : Request → List ℕ → Roster → Change
 otherwise e t r =
     judged e (find (e .key) t) (record { server = 0; flag = false }) (record { table = t; rows = []; flags = []; roster = r })
 
@@ -85,7 +85,7 @@ pub record Demand2 (n : ℕ) (E : Engine) : Type 0 where
       → PacketRight key (E .table h) (E .roster h) (E .says h bytes) (E .table (bytes ∷ h)) (E .roster (bytes ∷ h))
   pub others : (h : List (List ℕ)) (bytes : List ℕ) → AllBytes (bytes ∷ h)
       → ((key : List ℕ) → eventIn bytes ≡ asksKey 1 key → some (workingSet (E .roster h)) ≡ true → ⊥)
-      → (E .says h bytes ≡ otherwise (eventIn bytes) (E .table h) (E .roster h) .told)
+      → (E .says h bytes ≡ otherwise (eventIn bytes) (E .table h) (E .roster h) .answer)
       × (E .table (bytes ∷ h) ≡ otherwise (eventIn bytes) (E .table h) (E .roster h) .state .table)
       × (E .roster (bytes ∷ h) ≡ otherwise (eventIn bytes) (E .table h) (E .roster h) .state .roster)
 

@@ -7,16 +7,16 @@ use Rattle.sets.proofs.Cases.{both, clash}
 use Rattle.ranking.specs.declared.Pick.{Pick}
 use Rattle.event.specs.declared.Ask.{Ask}
 use Rattle.event.specs.declared.Ask.the-variants.{Packet, Refused}
-use Rattle.event.specs.Event.{toldAs, asksKey}
+use Rattle.event.specs.Event.{requestBy, asksKey}
 use Rattle.table.specs.Table.{Finding}
-use Rattle.rules.specs.Rules.{State, admitted, judged}
+use Rattle.rules.specs.Rules.{State, lentBar, admitted, judged}
 use Rattle.engine.specs.Looking.{asksPacket, admittedAsk}
 
 module _ (a : Ask) (sized rosterSound : Bool) (key : List ℕ) (found : Finding) (pick : Pick) (st : State) where
   -- all but packets
   pub admitted-other : (b : Ask) → b ≡ admittedAsk sized rosterSound a → asksPacket b ≡ false
-      → judged (toldAs b key) found pick st ≡ judged (admitted sized rosterSound (toldAs a key)) found pick st
-  unfolding admittedAsk admitted judged
+      → judged (requestBy b key) found pick st ≡ judged (admitted (lentBar sized rosterSound) (requestBy a key)) found pick st
+  unfolding admittedAsk admitted lentBar judged
   admitted-other b e n =
       both
       sized
@@ -33,8 +33,8 @@ module _ (a : Ask) (sized rosterSound : Bool) (key : List ℕ) (found : Finding)
 
   -- a packet, whose 11 is still to be tested
   pub admitted-packet : Packet ≡ admittedAsk sized rosterSound a
-      → judged (admitted true rosterSound (asksKey 1 key)) found pick st ≡ judged (admitted sized rosterSound (toldAs a key)) found pick st
-  unfolding admittedAsk admitted
+      → judged (admitted (lentBar true rosterSound) (asksKey 1 key)) found pick st ≡ judged (admitted (lentBar sized rosterSound) (requestBy a key)) found pick st
+  unfolding admittedAsk admitted lentBar
   admitted-packet e =
       both
       sized

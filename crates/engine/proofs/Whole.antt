@@ -1,35 +1,34 @@
 -- The parts put together are the rules: a look, the ring's entry read for it, the reaction and the ring drawn for it are `eventOf`.
-use Prim.Native.Nat.{ℕ, _%_, _≤_}
-use mathlib.Core.Bool.{Bool, true, false, cond, not, _&&_, _||_}
+use Prim.Native.Nat.{ℕ, _≤_}
+use mathlib.Core.Bool.{Bool, true, false, cond}
 use mathlib.Core.List.{List}
 use mathlib.Core.Path.{_≡_, refl, sym, ap, subst, _∙_}
 use native.Mathlib.Omega.{arith}
-use lib.Dec.{eqb, leb, ltb}
+use lib.Dec.{eqb, ltb}
 use lib.ListN.{length, length-take}
-use borrow.Author.Tests.{eqb-true, ltb-true}
+use borrow.Author.Tests.{ltb-true}
 use Rattle.hash.specs.Hash.{F}
 use Rattle.sets.proofs.Cases.{both, clash}
 use Rattle.ranking.specs.declared.Pick.{Pick}
 use Rattle.roster.specs.declared.Roster.{Roster}
 use Rattle.roster.specs.Roster.{sound, heldServers, workingSet, placeOf, addedHorizon, removedHorizon}
 use Rattle.roster.proofs.Form.{sound-parts}
-use Rattle.event.specs.Event.{Asked, refusedBy, eventIn}
-use Rattle.event.specs.Event.{told as told-event}
+use Rattle.event.specs.Event.{Request, refusedBy, eventIn}
 use Rattle.table.specs.Table.{Finding, find, room}
-use Rattle.table.specs.Table.{told as told-found}
 use Rattle.ring.specs.declared.Entry.{Entry}
 use Rattle.ring.specs.Ring.{entryRead, overlaid}
 use Rattle.ringplan.specs.Plan.{planned, drawn}
 use Rattle.ringplan.proofs.Planning.{overlaid-drawn}
-use Rattle.rules.specs.declared.Outcome.{Outcome}
-use Rattle.rules.specs.Rules.{State, Change, Done, is, sizesRight, admitted, judged, barred, effect, packet, end, pickBy, sizedFor, settled, done, startDone, startOf, eventOf}
-use Rattle.engine.specs.declared.Seen.{Seen}
+use Rattle.rules.specs.Answer.{answerOf}
+use Rattle.rules.specs.Rules.{stateWith, worldWith, State, World, Change, Done, is, lentBar, admitted, judged, barred, effect, packet, end, pickBy, sizedFor, settled, eventOf, EventPromise}
+use Rattle.rules.proofs.Sizes.{right-sizes}
+use Rattle.engine.specs.declared.Lookup.{Lookup}
 use Rattle.answers.specs.declared.Reaction.{Reaction}
-use Rattle.answers.specs.Reacting.{stateWith, reacted}
-use Rattle.engine.specs.Looking.{Looked, seenAs, nothingFound, foundBy, unrecorded, lookOf, redrawn, Begun, begun, beginOf}
+use Rattle.answers.specs.Reacting.{reacted}
+use Rattle.engine.specs.Looking.{LookupFacts, lookupFacts, lookOf, reactOf, redrawn}
 
 -- what is found and picked matters only where the kind looks at it
-module _ (e : Asked) (st : State) where
+module _ (e : Request) (st : State) where
   found-free : (found found′ : Finding) (p : Pick) → is 1 e ≡ false → is 2 e ≡ false → judged e found p st ≡ judged e found′ p st
   unfolding judged barred effect
   found-free found found′ p a b = rw (a, b)
@@ -54,7 +53,7 @@ unfolding pickBy
 pick-spot f s s′ st n = rw n
 
 -- so what a look finds is enough
-module _ (e : Asked) (t rows flags : List ℕ) (r : Roster) (ring : List Entry) where
+module _ (e : Request) (t rows flags : List ℕ) (r : Roster) (ring : List Entry) where
   looked-enough : (sized : Bool) → let st = stateWith t rows flags r in
       let l = lookOf sized e t r in
       judged e (l .found) (pickBy (l .f) (entryRead (l .places) (l .f) ring) st) st
@@ -85,13 +84,13 @@ module _ (e : Asked) (t rows flags : List ℕ) (r : Roster) (ring : List Entry) 
       (λ q. rw (p, q) (found-free e st _ (find (e .key) t) _ p q ∙ pick-free e st (find (e .key) t) _ _ p)))
 
 -- and it needs no more where the event is refused by 9 or 11, whatever was found
-module _ (sized rosterSound : Bool) (e : Asked) (t rows flags : List ℕ) (r : Roster) (ring : List Entry) where
+module _ (sized rosterSound : Bool) (e : Request) (t rows flags : List ℕ) (r : Roster) (ring : List Entry) where
   looked-admitted : let st = stateWith t rows flags r in
       let l = lookOf sized e t r in
-      let a = admitted sized rosterSound e in
-      judged (admitted (l .sized) rosterSound (l .asked)) (l .found) (pickBy (l .f) (entryRead (l .places) (l .f) ring) st) st
+      let a = admitted (lentBar sized rosterSound) e in
+      judged (admitted (lentBar (l .sized) rosterSound) (l .request)) (l .found) (pickBy (l .f) (entryRead (l .places) (l .f) ring) st) st
       ≡ judged a (find (a .key) t) (pickBy (F (a .key)) (entryRead (r .held) (F (a .key)) ring) st) st
-  unfolding lookOf admitted
+  unfolding lookOf admitted lentBar
   looked-admitted =
       both
       sized
@@ -103,43 +102,15 @@ module _ (sized rosterSound : Bool) (e : Asked) (t rows flags : List ℕ) (r : R
       (λ a. rw a (refused-free 9 t rows flags r _ _ _ _))
 
 -- a refused event draws no ring: where the ring is drawn, every buffer has its length
-redraw-sized : (sized rosterSound : Bool) (e : Asked) (found : Finding) (p : Pick) (st : State)
-    → judged (admitted sized rosterSound e) found p st .redraw ≡ true → sized ≡ true
-unfolding admitted judged
+redraw-sized : (sized rosterSound : Bool) (e : Request) (found : Finding) (p : Pick) (st : State)
+    → judged (admitted (lentBar sized rosterSound) e) found p st .redraw ≡ true → sized ≡ true
+unfolding admitted lentBar judged
 redraw-sized true rosterSound e found p st q = refl
 redraw-sized false rosterSound e found p st q = clash q refl
 
-ring-64 : (a b c d : ℕ) → sizesRight a b c d ≡ true → d ≡ 64
-unfolding sizesRight
-ring-64 a b c d e =
-    both
-    (eqb d 64)
-    (λ t. eqb-true d 64 t)
-    (
-    λ t. both
-    (eqb a 0)
-    (λ u. clash (rw u at e) refl)
-    (
-    λ u. both
-    (leb a 65520)
-    (
-    λ v. both
-    (eqb (a % 20) 0)
-    (
-    λ w. both
-    (eqb b 4096)
-    (
-    λ x. both
-    (eqb c 4096)
-    (λ y. clash (rw (u, v, w, x, y, t) at e) refl)
-    (λ y. clash (rw (u, v, w, x, y) at e) refl))
-    (λ x. clash (rw (u, v, w, x) at e) refl))
-    (λ w. clash (rw (u, v, w) at e) refl))
-    (λ v. clash (rw (u, v) at e) refl)))
-
-redraw-sound : (sized rosterSound : Bool) (e : Asked) (found : Finding) (p : Pick) (st : State)
-    → judged (admitted sized rosterSound e) found p st .redraw ≡ true → rosterSound ≡ true
-unfolding admitted judged
+redraw-sound : (sized rosterSound : Bool) (e : Request) (found : Finding) (p : Pick) (st : State)
+    → judged (admitted (lentBar sized rosterSound) e) found p st .redraw ≡ true → rosterSound ≡ true
+unfolding admitted lentBar judged
 redraw-sound true true e found p st q = refl
 redraw-sound true false e found p st q = clash q refl
 redraw-sound false rosterSound e found p st q = clash q refl
@@ -172,7 +143,7 @@ removed-few s r h =
     both (ltb (placeOf s r) (length (heldServers r))) (λ t. rw t (omega arith)) (λ t. rw t h)
 
 -- where the ring is drawn, the roster afterwards holds at most 64
-redraw-few : (e : Asked) (found : Finding) (p : Pick) (st : State) → st .roster .held ≤ 64
+redraw-few : (e : Request) (found : Finding) (p : Pick) (st : State) → st .roster .held ≤ 64
     → judged e found p st .redraw ≡ true → judged e found p st .state .roster .held ≤ 64
 unfolding judged effect
 redraw-few e found p st h q =
@@ -221,57 +192,51 @@ redrawn-is true r ring n h =
     ap (λ (k : ℕ). overlaid (planned (heldServers r) (workingSet r)) k ring) (sym l)
     ∙ overlaid-drawn (heldServers r) (workingSet r) ring (omega arith) (omega arith)
 
-module _ (bytes t rows flags : List ℕ) (ring : List Entry) (r : Roster) where
-  abbrev admittedHere : Asked
-  admittedHere = admitted (sizesRight (length t) (length rows) (length flags) (length ring)) (sound r) (eventIn bytes)
+module _ (bytes : List ℕ) (w : World) where
+  abbrev st : State
+  st = w .state
+
+  abbrev sizedHere : Bool
+  sizedHere = sizedFor (length (w .ring)) st
+
+  abbrev admittedHere : Request
+  admittedHere = admitted (lentBar sizedHere (sound (st .roster))) (eventIn bytes)
 
   abbrev judgedHere : Change
   judgedHere =
       judged
       admittedHere
-      (find (admittedHere .key) t)
-      (pickBy (F (admittedHere .key)) (entryRead (r .held) (F (admittedHere .key)) ring) (stateWith t rows flags r))
-      (stateWith t rows flags r)
+      (find (admittedHere .key) (st .table))
+      (pickBy (F (admittedHere .key)) (entryRead (st .roster .held) (F (admittedHere .key)) (w .ring)) st)
+      st
 
   -- THE WHOLE: what the four calls of `event` promise, together
-  pub whole-event : (seen : Seen) (spot : Entry) (out : Reaction) (t′ rows′ flags′ : List ℕ) (ring′ : List Entry)
+  pub whole-event : (seen : Lookup) (spot : Entry) (out : Reaction) (t′ rows′ flags′ : List ℕ) (ring′ : List Entry)
       → length (out .roster .servers) ≡ 64
-      → seenAs seen ≡ lookOf (sizesRight (length t) (length rows) (length flags) (length ring)) (eventIn bytes) t r
-      → spot ≡ entryRead (seen .places) (seen .f) ring
-      → reacted out t′ rows′ flags′
-      ≡ judged (admitted (seen .sized) (sound r) (told-event (seen .event))) (told-found (seen .found)) (pickBy (seen .f) spot (stateWith t rows flags r)) (stateWith t rows flags r)
-      → ring′ ≡ redrawn (out .redraw) (out .roster) ring
-      → done (record { reply = out .reply; roster = out .roster }) t′ rows′ flags′ ring′ ≡ eventOf bytes (stateWith t rows flags r) ring
+      → lookupFacts seen ≡ lookOf sizedHere (eventIn bytes) (st .table) (st .roster)
+      → spot ≡ entryRead (seen .places) (seen .f) (w .ring)
+      → reacted out t′ rows′ flags′ ≡ reactOf seen spot st
+      → ring′ ≡ redrawn (out .redraw) (out .roster) (w .ring)
+      → EventPromise bytes w (worldWith t′ rows′ flags′ ring′ (out .roster)) (out .reply)
   unfolding eventOf lookOf
   whole-event seen spot out t′ rows′ flags′ ring′ n look read react draw =
-      let st = stateWith t rows flags r in
-      let seen-is : judged (admitted (seenAs seen .sized) (sound r) (seenAs seen .asked)) (seenAs seen .found) (pickBy (seenAs seen .f) (entryRead (seenAs seen .places) (seenAs seen .f) ring) st) st ≡ judgedHere =
-      ap (λ (l : Looked). judged (admitted (l .sized) (sound r) (l .asked)) (l .found) (pickBy (l .f) (entryRead (l .places) (l .f) ring) st) st) look
-      ∙ looked-admitted (sizesRight (length t) (length rows) (length flags) (length ring)) (sound r) (eventIn bytes) t rows flags r ring in
+      let reactTo : LookupFacts → Change =
+      λ l. judged (admitted (lentBar (l .sized) (sound (st .roster))) (l .request)) (l .found) (pickBy (l .f) (entryRead (l .places) (l .f) (w .ring)) st) st in
       let change : reacted out t′ rows′ flags′ ≡ judgedHere =
       react
-      ∙ ap (λ (x : Entry). judged (admitted (seen .sized) (sound r) (told-event (seen .event))) (told-found (seen .found)) (pickBy (seen .f) x st) st) read
-      ∙ seen-is in
+      ∙ ap (λ (x : Entry). reactOf seen x st) read
+      ∙ ap reactTo look
+      ∙ looked-admitted sizedHere (sound (st .roster)) (eventIn bytes) (st .table) (st .rows) (st .flags) (st .roster) (w .ring) in
       let drawing : out .redraw ≡ true → judgedHere .redraw ≡ true = λ q. ap (λ (c : Change). c .redraw) (sym change) ∙ q in
-      let sized : out .redraw ≡ true → (length ring ≡ 64) × (out .roster .held ≤ 64) =
+      let sized : out .redraw ≡ true → (length (w .ring) ≡ 64) × (out .roster .held ≤ 64) =
       λ q. let d = drawing q in (
-        ring-64 _ _ _ _ (redraw-sized _ (sound r) (eventIn bytes) _ _ st d),
+        right-sizes _ _ _ _ (redraw-sized _ (sound (st .roster)) (eventIn bytes) _ _ st d) .ring-64,
         subst
             (λ (c : Change). c .state .roster .held ≤ 64)
             (sym change)
-            (redraw-few admittedHere _ _ st (sound-parts r (redraw-sound _ (sound r) (eventIn bytes) _ _ st d) .few) d),
+            (redraw-few admittedHere _ _ st (sound-parts (st .roster) (redraw-sound _ (sound (st .roster)) (eventIn bytes) _ _ st d) .few) d),
       ) in
       ap
-      (λ (es : List Entry). done (record { reply = out .reply; roster = out .roster }) t′ rows′ flags′ es)
-      (draw ∙ redrawn-is (out .redraw) (out .roster) ring n sized)
-      ∙ ap (λ (c : Change). settled c ring) change
-
-  -- the start, likewise
-  pub whole-start : (o : Outcome) (t′ : List ℕ) → begun o t′ ≡ beginOf t (length rows) (length flags) (length ring) r
-      → done o t′ rows flags ring ≡ startDone (stateWith t rows flags r) ring
-  unfolding beginOf startOf
-  whole-start o t′ e =
-      both
-      (sizesRight (length t) (length rows) (length flags) (length ring))
-      (λ s. rw s (ap (λ (b : Begun). record { told = b .told; table = b .table; rows = rows; flags = flags; ring = ring; roster = b .roster }) (rw s at e)))
-      (λ s. rw s (ap (λ (b : Begun). record { told = b .told; table = b .table; rows = rows; flags = flags; ring = ring; roster = b .roster }) (rw s at e)))
+      (λ (es : List Entry). record { answer = answerOf (out .reply); world = worldWith t′ rows′ flags′ es (out .roster) })
+      (draw ∙ redrawn-is (out .redraw) (out .roster) (w .ring) n sized)
+      ∙ ap (λ (c : Change). settled c (w .ring)) change

@@ -13,16 +13,17 @@ use rules::Reply;
 use table::Found;
 ghost use mathlib.Core.Path.{_≡_};
 ghost use lib.ListN.{length};
-ghost use Rattle.event.specs.Event.{eventIn, told as told-event};
-ghost use Rattle.table.specs.Table.{told as told-found};
+ghost use mathlib.Core.List.{List};
+ghost use Prim.Native.Nat.{ℕ};
+ghost use Rattle.event.specs.Event.{eventIn};
 ghost use Rattle.roster.specs.Roster.{sound as sound-of, heldServers, workingSet};
 ghost use Rattle.ringplan.specs.Plan.{planned};
-ghost use Rattle.rules.specs.Rules.{sizesRight, admitted, judged, pickBy};
-ghost use Rattle.engine.specs.Looking.{lookOf, seenAs, asksPacket, admittedAsk, begun, beginOf};
-ghost use Rattle.answers.specs.Reacting.{stateWith, reacted};
+ghost use Rattle.rules.specs.Rules.{stateWith, worldWith, StartPromise, sizesRight};
+ghost use Rattle.engine.specs.Looking.{lookOf, lookupFacts, asksPacket, admittedAsk, reactOf};
+ghost use Rattle.answers.specs.Reacting.{reacted};
 
 // What a look at an event record finds before the ring is read.
-pub struct Seen {
+pub struct Lookup {
     pub event: Event,
     pub found: Found,
     pub f: u32,
@@ -38,8 +39,9 @@ pub fn look(
     flags: usize,
     ring: usize,
     roster: Roster,
-) -> Seen
-    ensures { λ s. ⌜ seenAs s ≡ lookOf (sizesRight (length (now (table .entry))) rows flags ring) (eventIn (now (bytes .entry))) (now (table .entry)) roster ⌝ }
+) -> Lookup
+    ensures { λ s. ⌜ lookupFacts s
+        ≡ lookOf (sizesRight (length (now (table .entry))) rows flags ring) (eventIn (now (bytes .entry))) (now (table .entry)) roster ⌝ }
 {
     let sized = looking::sizes_right(table.len(), rows, flags, ring);
     let event = event::read(bytes);
@@ -48,7 +50,7 @@ pub fn look(
 
 // Does what the event asks to table, rows and flags, or refuses it; `spot` is the ring's entry that was read for it.
 pub fn react(
-    seen: Seen,
+    seen: Lookup,
     spot: Entry,
     table: &mut [u8],
     rows: &mut [u32],
@@ -56,9 +58,7 @@ pub fn react(
     roster: Roster,
 ) -> Reaction
     ensures { λ v. ⌜ reacted v (now (table .exit)) (now (rows .exit)) (now (flags .exit))
-        ≡ judged (admitted (seen .sized) (sound-of roster) (told-event (seen .event))) (told-found (seen .found))
-        (pickBy (seen .f) spot (stateWith (now (table .entry)) (now (rows .entry)) (now (flags .entry)) roster))
-        (stateWith (now (table .entry)) (now (rows .entry)) (now (flags .entry)) roster) ⌝ }
+        ≡ reactOf seen spot (stateWith (now (table .entry)) (now (rows .entry)) (now (flags .entry)) roster) ⌝ }
 {
     let event = seen.event;
     let asked = event.ask;
@@ -102,19 +102,15 @@ fn is_packet(ask: Ask) -> bool
 {
     match ask {
         Ask::Packet => true,
-        Ask::End => false,
-        Ask::AddWorking(_) => false,
-        Ask::RemoveWorking(_) => false,
-        Ask::AddHorizon(_) => false,
-        Ask::RemoveHorizon(_) => false,
-        Ask::Configure(_) => false,
-        Ask::Refused(_) => false,
+        _ => false,
     }
 }
 
 // Starts on a lent table: refused only by 9, else the table is zeroed and the roster is empty.
 pub fn begin(table: &mut [u8], rows: usize, flags: usize, ring: usize, roster: Roster) -> Outcome
-    ensures { λ o. ⌜ begun o (now (table .exit)) ≡ beginOf (now (table .entry)) rows flags ring roster ⌝ }
+    ensures { λ o. ⌜ ((ns fs : List ℕ) (es : List Entry) → length ns ≡ rows → length fs ≡ flags → length es ≡ ring
+        → StartPromise (worldWith (now (table .entry)) ns fs es roster)
+        (worldWith (now (table .exit)) ns fs es (o .roster)) (o .reply)) ⌝ }
 {
     if !looking::sizes_right(table.len(), rows, flags, ring) {
         return Outcome {

@@ -1,16 +1,16 @@
 // What can be told of an event record before the ring is read.
-use crate::Seen;
+use crate::Lookup;
 use event::Ask;
 use event::Event;
 use roster::Roster;
 use table::Found;
 ghost use mathlib.Core.Path.{_≡_};
-ghost use Rattle.event.specs.Event.{told as told-event};
+ghost use Rattle.event.specs.Event.{requestOf};
 ghost use Rattle.rules.specs.Rules.{sizesRight};
 ghost use mathlib.Core.Bool.{cond};
 ghost use lib.Dec.{eqb};
 ghost use Rattle.event.specs.declared.Ask.the-variants.{Packet};
-ghost use Rattle.engine.specs.Looking.{lookOf, seenAs, nothingFound};
+ghost use Rattle.engine.specs.Looking.{lookOf, lookupFacts, nothingFound};
 
 // Whether every lent buffer has its length: refusal 9.
 pub(crate) fn sizes_right(table: usize, rows: usize, flags: usize, ring: usize) -> bool
@@ -36,8 +36,8 @@ pub(crate) fn sizes_right(table: usize, rows: usize, flags: usize, ring: usize) 
 
 // Looks for the key's record, where the event has a key; for a packet without one also F of the key,
 // and how many ring entries are to be searched.
-pub(crate) fn seek(event: Event, table: &[u8], sized: bool, roster: Roster) -> Seen
-    ensures { λ s. ⌜ seenAs s ≡ lookOf sized (told-event event) (now (table .entry)) roster ⌝ }
+pub(crate) fn seek(event: Event, table: &[u8], sized: bool, roster: Roster) -> Lookup
+    ensures { λ s. ⌜ lookupFacts s ≡ lookOf sized (requestOf event) (now (table .entry)) roster ⌝ }
 {
     let ask = event.ask;
     match ask {
@@ -45,7 +45,7 @@ pub(crate) fn seek(event: Event, table: &[u8], sized: bool, roster: Roster) -> S
         Ask::End => {
             let key = event.key;
             let found = table::find(table, key);
-            Seen {
+            Lookup {
                 event: event,
                 found: found,
                 f: 0,
@@ -53,31 +53,26 @@ pub(crate) fn seek(event: Event, table: &[u8], sized: bool, roster: Roster) -> S
                 sized: sized,
             }
         }
-        Ask::AddWorking(_) => seek_nothing(event, sized),
-        Ask::RemoveWorking(_) => seek_nothing(event, sized),
-        Ask::AddHorizon(_) => seek_nothing(event, sized),
-        Ask::RemoveHorizon(_) => seek_nothing(event, sized),
-        Ask::Configure(_) => seek_nothing(event, sized),
-        Ask::Refused(_) => seek_nothing(event, sized),
+        _ => seek_nothing(event, sized),
     }
 }
 
 // A packet: its key's record, or F of the key.
-fn seek_packet(event: Event, table: &[u8], sized: bool, roster: Roster) -> Seen
+fn seek_packet(event: Event, table: &[u8], sized: bool, roster: Roster) -> Lookup
     requires { ⌜ event .ask ≡ Packet ⌝ }
-    ensures { λ s. ⌜ seenAs s ≡ lookOf sized (told-event event) (now (table .entry)) roster ⌝ }
+    ensures { λ s. ⌜ lookupFacts s ≡ lookOf sized (requestOf event) (now (table .entry)) roster ⌝ }
 {
     let key = event.key;
     let found = table::find(table, key);
     match found {
-        Found::At(_) => Seen {
+        Found::At(_) => Lookup {
             event: event,
             found: found,
             f: 0,
             places: 0,
             sized: sized,
         },
-        Found::Nothing(_) => Seen {
+        Found::Nothing(_) => Lookup {
             event: event,
             found: found,
             f: hash::fnv(&key),
@@ -98,10 +93,10 @@ fn places_read(roster: Roster) -> usize
 }
 
 // An event without a key looks for nothing.
-fn seek_nothing(event: Event, sized: bool) -> Seen
-    ensures { λ s. ⌜ seenAs s ≡ record { asked = told-event event; found = nothingFound; f = 0; places = 0; sized = sized } ⌝ }
+fn seek_nothing(event: Event, sized: bool) -> Lookup
+    ensures { λ s. ⌜ lookupFacts s ≡ record { request = requestOf event; found = nothingFound; f = 0; places = 0; sized = sized } ⌝ }
 {
-    Seen {
+    Lookup {
         event: event,
         found: Found::Nothing(0),
         f: 0,

@@ -5,7 +5,7 @@ ghost use lib.Dec.{eqb};
 ghost use lib.ListN.{length, drop};
 ghost use Rattle.bigendian.specs.BigEndian.{number4At};
 ghost use Rattle.spans.specs.Spans.{allZero};
-ghost use Rattle.event.specs.Event.{told, toldAs, noKey, refusedBy, asksSettings, byKind, eventIn};
+ghost use Rattle.event.specs.Event.{requestOf, requestBy, noKey, refusedBy, asksSettings, byKind, eventIn};
 use settings::Settings;
 
 // What an event asks, or the number by which it is refused.
@@ -28,7 +28,7 @@ pub struct Event {
 
 // Takes a record of bytes apart by its kind number.
 pub fn read(bytes: &[u8]) -> Event
-    ensures { λ r. ⌜ told r ≡ eventIn (now (bytes .entry)) ⌝ }
+    ensures { λ r. ⌜ requestOf r ≡ eventIn (now (bytes .entry)) ⌝ }
 {
     if bytes.len() != 16 {
         return refused(1);
@@ -44,7 +44,7 @@ pub fn read(bytes: &[u8]) -> Event
 
 // The refusal of an event by its number.
 fn refused(number: u8) -> Event
-    ensures { λ r. ⌜ told r ≡ refusedBy number ⌝ }
+    ensures { λ r. ⌜ requestOf r ≡ refusedBy number ⌝ }
 {
     Event {
         ask: Ask::Refused(number),
@@ -76,7 +76,7 @@ fn body_of(bytes: &[u8]) -> [u8; 13]
 
 // What a kind number makes of the bytes that follow it; a number that is no kind is refused.
 fn by_kind(kind: u8, body: [u8; 13]) -> Event
-    ensures { λ r. ⌜ told r ≡ byKind kind body ⌝ }
+    ensures { λ r. ⌜ requestOf r ≡ byKind kind body ⌝ }
 {
     match kind {
         1 => Event {
@@ -105,7 +105,7 @@ fn server_in(body: [u8; 13]) -> u32
 
 // What is asked of the server that the bytes name, unless a byte after it isn't zero, or the server is 0.
 fn naming(body: [u8; 13], ask: Ask) -> Event
-    ensures { λ r. ⌜ told r ≡ cond (allZero (drop 4 body)) (cond (eqb (number4At body 0) 0) (refusedBy 2) (toldAs ask noKey)) (refusedBy 1) ⌝ }
+    ensures { λ r. ⌜ requestOf r ≡ cond (allZero (drop 4 body)) (cond (eqb (number4At body 0) 0) (refusedBy 2) (requestBy ask noKey)) (refusedBy 1) ⌝ }
 {
     if !spans::all_zero(&body[4..]) {
         return refused(1);
@@ -121,7 +121,7 @@ fn naming(body: [u8; 13], ask: Ask) -> Event
 
 // Configure, with the settings that the bytes name where they are well formed.
 fn configure(body: [u8; 13]) -> Event
-    ensures { λ r. ⌜ told r ≡ asksSettings body ⌝ }
+    ensures { λ r. ⌜ requestOf r ≡ asksSettings body ⌝ }
 {
     if !settings::well_formed(body) {
         return refused(1);

@@ -15,13 +15,13 @@ use Rattle.ranking.specs.Methods.{inRow}
 use Rattle.settings.specs.Settings.{valid, wellFormed}
 use Rattle.lists.specs.Lists.{rising, allStated, before, putIn}
 use Rattle.roster.specs.Roster.{working, standby, stateOf, emptyRoster, sound, stateIn, restated, addedHorizon}
-use Rattle.event.specs.Event.{Asked, asksKey, eventIn, byKind, asksServer, asksSettings, allBytes}
+use Rattle.event.specs.Event.{Request, asksKey, eventIn, byKind, asksServer, asksSettings, allBytes}
 use Rattle.table.specs.Table.{usedTag, firstRecords, recordsOf, usedAmong, usedPart, findAmong, find, serverAt, bytesOf, writtenAfter, packed, without, removed, notNaming, removedServer}
 use Rattle.rows.specs.Rows.{upTo, written, filled, cleared, rowRead}
 use Rattle.ring.specs.Ring.{blank}
 use Rattle.rules.specs.Answer.{accepts}
-use Rattle.rules.specs.Rules.{sizesRight, admitted, barred, packet, end, refilled, effect, judged, pickBy, eventOf, startOf}
-use Rattle.histories.specs.Histories.{World, after, rankingFor}
+use Rattle.rules.specs.Rules.{World, sizesRight, admitted, barred, packet, end, refilled, effect, judged, pickBy, eventOf, startOf}
+use Rattle.histories.specs.Histories.{after, rankingFor}
 use Rattle.demands.specs.Demands.{ours, Provisos}
 use Rattle.demands.proofs.Steady.{steady}
 
@@ -81,11 +81,11 @@ abbrev pub twoAndStandby : List (List ℕ)
 twoAndStandby = stands 4 ∷ two
 
 -- an event of another kind, or of a key with another first byte, is not the end of a key
-pub other-kind : (e : Asked) (key : List ℕ) (kind : ℕ) → e .kind ≡ kind → kind ≢ 2 → e ≢ asksKey 2 key
-other-kind e key kind k n q = n (sym k ∙ ap (λ (a : Asked). a .kind) q)
+pub other-kind : (e : Request) (key : List ℕ) (kind : ℕ) → e .kind ≡ kind → kind ≢ 2 → e ≢ asksKey 2 key
+other-kind e key kind k n q = n (sym k ∙ ap (λ (a : Request). a .kind) q)
 
-pub other-key : (e : Asked) (key : List ℕ) (a b : ℕ) → getD (e .key) 0 0 ≡ a → getD key 0 0 ≡ b → a ≢ b → e ≢ asksKey 2 key
-other-key e key a b p r n q = n (sym p ∙ ap (λ (x : Asked). getD (x .key) 0 0) q ∙ r)
+pub other-key : (e : Request) (key : List ℕ) (a b : ℕ) → getD (e .key) 0 0 ≡ a → getD key 0 0 ≡ b → a ≢ b → e ≢ asksKey 2 key
+other-key e key a b p r n q = n (sym p ∙ ap (λ (x : Request). getD (x .key) 0 0) q ∙ r)
 
 -- ---- a standby joins between two packets of a key, which is recorded
 

@@ -15,16 +15,16 @@ use Rattle.ranking.specs.Ranking.{picked}
 use Rattle.roster.specs.Roster.{workingSet, horizon}
 use Rattle.roster.proofs.Form.{empty-sized, empty-sound}
 use Rattle.roster.proofs.Bounds.{empty-below}
-use Rattle.event.specs.Event.{Asked, eventIn, allBytes}
+use Rattle.event.specs.Event.{Request, eventIn, allBytes}
 use Rattle.event.proofs.Reading.{Fields, reading}
 use Rattle.table.specs.Table.{find}
 use Rattle.table.proofs.Records.{entries-started, length-started}
 use Rattle.table.proofs.Stray.{clean-started}
 use Rattle.ring.specs.Ring.{entryRead}
-use Rattle.rules.specs.Rules.{State, is, empty, barred, effect, judged, refilled, pickBy, sizedFor, admitted, settled, eventOf, startOf}
-use Rattle.histories.specs.Histories.{World, left, begins, startAccepted, after, AllBytes, rankingFor, Along}
+use Rattle.rules.specs.Rules.{World, State, is, empty, barred, effect, judged, refilled, pickBy, sizedFor, lentBar, admitted, settled, eventOf, startOf}
+use Rattle.histories.specs.Histories.{begins, startAccepted, after, AllBytes, rankingFor, Along}
 use Rattle.histories.proofs.Inner.{Inner}
-use Rattle.histories.proofs.Picking.{pickOf, pick-right}
+use Rattle.histories.proofs.Picking.{pickAt, pick-right}
 use Rattle.histories.proofs.Barring.{Passed, passed}
 use Rattle.histories.proofs.Keeping.{packet-keeps, end-keeps, configured-keeps}
 use Rattle.histories.proofs.Changing.{addedWorking-keeps, removedWorking-keeps, addedHorizon-keeps, removedHorizon-keeps}
@@ -43,9 +43,9 @@ last-kind k small k₀ k₁ k₂ k₃ k₄ k₅ k₆ =
     let seven : 7 ≤ k = above 6 (above 5 (above 4 (above 3 (above 2 (above 1 (above 0 (omega arith) k₀) k₁) k₂) k₃) k₄) k₅) k₆ in
     eq-eqb k 7 (omega (arith, small, seven))
 
-module _ (w : World) (i : Inner w) (bytes : List ℕ) (b : allBytes bytes ≡ true) (e : Asked) (f : Fields bytes e) (pick : Pick) where
+module _ (w : World) (i : Inner w) (bytes : List ℕ) (b : allBytes bytes ≡ true) (e : Request) (f : Fields bytes e) (pick : Pick) where
   effect-keeps : is 0 e ≡ false → Passed e (find (e .key) (w .state .table)) pick (w .state)
-      → Inner (left (settled (effect e (find (e .key) (w .state .table)) pick (w .state)) (w .ring)))
+      → Inner ((settled (effect e (find (e .key) (w .state .table)) pick (w .state)) (w .ring)) .world)
   unfolding effect
   effect-keeps k₀ p =
       both (is 1 e) (λ k. rw k (packet-keeps w i (e .key) pick (f .key-sized) (p .led k))) (λ k₁.
@@ -63,7 +63,7 @@ module _ (w : World) (i : Inner w) (bytes : List ℕ) (b : allBytes bytes ≡ tr
       rw (k₁, k₂, k₃, k₄, k₅, k₆)
       (configured-keeps w i (e .settings) (f .settings-valid) (empty-none (w .state) (p .configures k)))))))))
 
-  judged-keeps : Inner (left (settled (judged e (find (e .key) (w .state .table)) pick (w .state)) (w .ring)))
+  judged-keeps : Inner ((settled (judged e (find (e .key) (w .state .table)) pick (w .state)) (w .ring)) .world)
   unfolding judged
   judged-keeps =
       let found = find (e .key) (w .state .table) in
@@ -74,19 +74,19 @@ module _ (w : World) (i : Inner w) (bytes : List ℕ) (b : allBytes bytes ≡ tr
 
 -- while sizes and roster are right, an event is judged as its bytes ask
 pub event-judged : (w : World) → Along w → (bytes : List ℕ)
-    → eventOf bytes (w .state) (w .ring)
-    ≡ settled (judged (eventIn bytes) (find (eventIn bytes .key) (w .state .table)) (pickOf w (eventIn bytes .key)) (w .state)) (w .ring)
-unfolding eventOf admitted
+    → eventOf bytes w
+    ≡ settled (judged (eventIn bytes) (find (eventIn bytes .key) (w .state .table)) (pickAt w (eventIn bytes .key)) (w .state)) (w .ring)
+unfolding eventOf admitted lentBar
 event-judged w a bytes = rw (a .sized, a .rosterSound)
 
-pub event-keeps : (w : World) → Inner w → (bytes : List ℕ) → allBytes bytes ≡ true → Inner (left (eventOf bytes (w .state) (w .ring)))
-event-keeps w i bytes b = rw (event-judged w (i .along) bytes) (judged-keeps w i bytes b (eventIn bytes) (reading bytes) (pickOf w (eventIn bytes .key)))
+pub event-keeps : (w : World) → Inner w → (bytes : List ℕ) → allBytes bytes ≡ true → Inner ((eventOf bytes w) .world)
+event-keeps w i bytes b = rw (event-judged w (i .along) bytes) (judged-keeps w i bytes b (eventIn bytes) (reading bytes) (pickAt w (eventIn bytes .key)))
 
 pub start-inner : (w : World) → startAccepted w ≡ true → Inner (begins w)
 unfolding startOf refilled
 start-inner w a =
     both (sizedFor (length (w .ring)) (w .state))
-    (λ t. rw t
+    (λ t. rw (t, begins)
     (record {
       along =
           record {

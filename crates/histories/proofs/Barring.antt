@@ -7,7 +7,7 @@ use borrow.Author.Tests.{eqb-true, leb-false, not-false}
 use Rattle.sets.proofs.Cases.{both, clash, or-left, or-right}
 use Rattle.ranking.specs.declared.Pick.{Pick}
 use Rattle.roster.specs.Roster.{working, standby, stateOf, workingSet}
-use Rattle.event.specs.Event.{Asked}
+use Rattle.event.specs.Event.{Request}
 use Rattle.table.specs.Table.{Finding}
 use Rattle.ringplan.specs.Plan.{some}
 use Rattle.rules.specs.Rules.{State, is, empty, target, barred}
@@ -16,7 +16,7 @@ use Rattle.rules.specs.Rules.{State, is, empty, target, barred}
 kind-passed : (a b : Bool) → a ≡ true → a && not b ≡ false → b ≡ true
 kind-passed a b e f = not-false b (rw e at f)
 
-module _ (e : Asked) (found : Finding) (pick : Pick) (st : State) where
+module _ (e : Request) (found : Finding) (pick : Pick) (st : State) where
   -- the lines of the table, each as a test
   abbrev pub line10 : Bool
   line10 = is 7 e && not (empty st)

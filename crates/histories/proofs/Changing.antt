@@ -15,8 +15,7 @@ use Rattle.roster.proofs.Bounds.{addedWorking-below, removedWorking-below, adde
 use Rattle.table.specs.Table.{usedPart, removedServer, entries}
 use Rattle.table.proofs.Records.{entries-removedServer, length-removedServer}
 use Rattle.table.proofs.Stray.{clean-removedServer}
-use Rattle.rules.specs.Rules.{changed, settled}
-use Rattle.histories.specs.Histories.{World, left}
+use Rattle.rules.specs.Rules.{World, changed, settled}
 use Rattle.histories.proofs.Inner.{Inner}
 use Rattle.histories.proofs.Recorded.{distinct-notNaming, named-under, named-notNaming}
 use Rattle.histories.proofs.Keeping.{changed-keeps}
@@ -31,7 +30,7 @@ works-on r s x k n q =
 
 module _ (w : World) (i : Inner w) (s : ℕ) where
   pub addedWorking-keeps : stateOf s (w .state .roster) ≡ standby
-      → Inner (left (settled (changed (addedWorking s (w .state .roster)) (w .state .table) (w .state)) (w .ring)))
+      → Inner ((settled (changed (addedWorking s (w .state .roster)) (w .state .table) (w .state)) (w .ring)) .world)
   addedWorking-keeps e =
       let r = w .state .roster in
       changed-keeps w i
@@ -48,7 +47,7 @@ module _ (w : World) (i : Inner w) (s : ℕ) where
       (i .along .clean)
 
   pub removedWorking-keeps : stateOf s (w .state .roster) ≡ working
-      → Inner (left (settled (changed (removedWorking s (w .state .roster)) (removedServer s (w .state .table)) (w .state)) (w .ring)))
+      → Inner ((settled (changed (removedWorking s (w .state .roster)) (removedServer s (w .state .table)) (w .state)) (w .ring)) .world)
   removedWorking-keeps e =
       let r = w .state .roster in
       let t = w .state .table in
@@ -67,7 +66,7 @@ module _ (w : World) (i : Inner w) (s : ℕ) where
       (clean-removedServer t (i .along .clean) s)
 
   pub addedHorizon-keeps : 0 < s → s < 2 ^ 32 → w .state .roster .held < 64 → stateOf s (w .state .roster) ≡ 0
-      → Inner (left (settled (changed (addedHorizon s (w .state .roster)) (w .state .table) (w .state)) (w .ring)))
+      → Inner ((settled (changed (addedHorizon s (w .state .roster)) (w .state .table) (w .state)) (w .ring)) .world)
   addedHorizon-keeps some fits room e =
       let r = w .state .roster in
       changed-keeps w i
@@ -84,7 +83,7 @@ module _ (w : World) (i : Inner w) (s : ℕ) where
       (i .along .clean)
 
   pub removedHorizon-keeps : stateOf s (w .state .roster) ≡ standby
-      → Inner (left (settled (changed (removedHorizon s (w .state .roster)) (w .state .table) (w .state)) (w .ring)))
+      → Inner ((settled (changed (removedHorizon s (w .state .roster)) (w .state .table) (w .state)) (w .ring)) .world)
   removedHorizon-keeps e =
       let r = w .state .roster in
       let so = i .along .rosterSound in

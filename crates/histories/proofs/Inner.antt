@@ -2,7 +2,8 @@
 use Prim.Native.Nat.{_^_}
 use Rattle.roster.proofs.Form.{Sized}
 use Rattle.roster.proofs.Bounds.{Below}
-use Rattle.histories.specs.Histories.{World, Along}
+use Rattle.rules.specs.Rules.{World}
+use Rattle.histories.specs.Histories.{Along}
 
 pub record Inner (w : World) : Type 0 where
   pub along : Along w

@@ -21,9 +21,9 @@ use Rattle.table.proofs.Records.{entries-removed, length-removed, length-writte
 use Rattle.table.proofs.Finds.{missing-none, missing-reads}
 use Rattle.table.proofs.Stray.{entries-appended, clean-appended, clean-removed}
 use Rattle.ringplan.specs.Plan.{drawn}
-use Rattle.rules.specs.Rules.{rowsOf, withTable, withSettings, target, packet, end, changed, configured, settled}
-use Rattle.histories.specs.Histories.{World, left, Distinct, AllWorking}
-use Rattle.histories.proofs.Sizes.{right-sizes}
+use Rattle.rules.specs.Rules.{World, rowsOf, withTable, withSettings, target, packet, end, changed, configured, settled}
+use Rattle.histories.specs.Histories.{Distinct, AllWorking}
+use Rattle.rules.proofs.Sizes.{right-sizes}
 use Rattle.histories.proofs.Inner.{Inner}
 use Rattle.histories.proofs.Recorded.{recorded-nowhere, distinct-append, distinct-without, named-append, named-without, named-under}
 use Rattle.histories.proofs.Drawing.{drawn-again, drawn-length, drawn-none, none-held, refilled-again, refilled-lengths, refilled-cleared, cleared-lengths}
@@ -68,7 +68,7 @@ module _ (w : World) (i : Inner w) where
 
   pub packet-keeps : (key : List ℕ) (pick : Pick) → length key ≡ 13
       → stateOf (target (find key (w .state .table)) pick (w .state)) (w .state .roster) ≡ working
-      → Inner (left (settled (packet key (find key (w .state .table)) pick (w .state)) (w .ring)))
+      → Inner ((settled (packet key (find key (w .state .table)) pick (w .state)) (w .ring)) .world)
   unfolding packet
   packet-keeps key pick k e =
       let t = w .state .table in
@@ -80,7 +80,7 @@ module _ (w : World) (i : Inner w) where
       rw (a, b, c, missing-reads key t a) (appended-keeps key (pick .server) k a (ltb-true (used t) (room t) u) (rw a at e)))
       (λ c. rw (a, b, c) i)))
 
-  pub end-keeps : (key : List ℕ) → Inner (left (settled (end (find key (w .state .table)) (w .state)) (w .ring)))
+  pub end-keeps : (key : List ℕ) → Inner ((settled (end (find key (w .state .table)) (w .state)) (w .ring)) .world)
   unfolding end
   end-keeps key =
       let t = w .state .table in
@@ -107,7 +107,7 @@ module _ (w : World) (i : Inner w) where
         (λ t. rw t)
 
     pub changed-keeps : Below (2 ^ 32) (r .servers) → (t : List ℕ) → length t ≡ length (w .state .table) → Distinct (entries t)
-        → AllWorking r (entries t) → noStray t ≡ true → Inner (left (settled (changed r t (w .state)) (w .ring)))
+        → AllWorking r (entries t) → noStray t ≡ true → Inner ((settled (changed r t (w .state)) (w .ring)) .world)
     changed-keeps b t n d a c =
         let rows = rowsOf (w .state) in
         record {
@@ -127,7 +127,7 @@ module _ (w : World) (i : Inner w) where
 
   -- new settings, while no server is held
   pub configured-keeps : (c : Settings) → valid c ≡ true → w .state .roster .held ≡ 0
-      → Inner (left (settled (configured c (w .state)) (w .ring)))
+      → Inner ((settled (configured c (w .state)) (w .ring)) .world)
   configured-keeps c v none =
       let r = w .state .roster in
       let r′ = withSettings c r in

@@ -14,23 +14,23 @@ use Rattle.ranking.specs.Ranking.{choice}
 use Rattle.ranking.proofs.Choice.{choice-member}
 use Rattle.roster.specs.Roster.{working, stateOf, workingSet}
 use Rattle.roster.proofs.Sets.{working-state}
-use Rattle.event.specs.Event.{Asked, eventIn}
+use Rattle.event.specs.Event.{Request, eventIn}
 use Rattle.event.proofs.Reading.{reading}
 use Rattle.table.specs.Table.{Finding, find, serverAt, usedPart}
 use Rattle.table.proofs.Records.{server-used}
 use Rattle.table.proofs.Finds.{found-from, found-within, found-first}
 use Rattle.ringplan.specs.Plan.{some}
-use Rattle.rules.specs.Rules.{State, Done, is, target, barred, judged, eventOf}
-use Rattle.histories.specs.Histories.{World, startAccepted, after, answer, AllBytes, rankingFor}
+use Rattle.rules.specs.Rules.{World, State, Done, is, target, barred, judged, eventOf}
+use Rattle.histories.specs.Histories.{startAccepted, after, answer, AllBytes, rankingFor}
 use Rattle.histories.proofs.Inner.{Inner}
-use Rattle.histories.proofs.Picking.{pickOf, ranking-strict, pick-right}
+use Rattle.histories.proofs.Picking.{pickAt, ranking-strict, pick-right}
 use Rattle.rules.proofs.Refusals.{effect-unrefused}
 use Rattle.histories.proofs.Recorded.{named-at}
 use Rattle.histories.proofs.Barring.{barred-not-9, barred-not-11, barred-8}
 use Rattle.histories.proofs.Along.{event-judged, inner}
 
 -- the number of a refusal is the record's own, up to 2, or the refusal table's
-judged-number : {C : Type 0} (e : Asked) (found : Finding) (pick : Pick) (st : State) (n : ℕ) → judged e found pick st .told .refusal ≡ n
+judged-number : {C : Type 0} (e : Request) (found : Finding) (pick : Pick) (st : State) (n : ℕ) → judged e found pick st .answer .refusal ≡ n
     → (e .refusal ≡ n → C) → (0 ≡ n → C) → (barred e found pick st ≡ n → C) → C
 unfolding judged
 judged-number e found pick st n q own none table =
@@ -53,26 +53,26 @@ module _ (w : World) (i : Inner w) (key : List ℕ) where
 
   -- and so does the pick, while some server works
   picked-works : (s : ℕ) → member s (workingSet (w .state .roster)) ≡ true
-      → stateOf (pickOf w key .server) (w .state .roster) ≡ working
+      → stateOf (pickAt w key .server) (w .state .roster) ≡ working
   picked-works s m =
       let r = w .state .roster in
       let R = rankingFor (r .settings) key in
       let c = choice R (workingSet r) in
-      let p : pickOf w key .server ≡ c = ap (λ (x : Pick). x .server) (pick-right w i key s m) in
+      let p : pickAt w key .server ≡ c = ap (λ (x : Pick). x .server) (pick-right w i key s m) in
       let q : member c (workingSet r) ≡ true = choice-member R (ranking-strict (r .settings) key) s (workingSet r) m in
       rw p (eqb-true (stateOf c r) 1 (sym (working-state r (i .along .rosterSound) c) ∙ q))
 
   pub target-works : (s : ℕ) → member s (workingSet (w .state .roster)) ≡ true
-      → stateOf (target (find key (w .state .table)) (pickOf w key) (w .state)) (w .state .roster) ≡ working
+      → stateOf (target (find key (w .state .table)) (pickAt w key) (w .state)) (w .state .roster) ≡ working
   target-works s m =
       both (find key (w .state .table) .found) (λ f. rw f (recorded-works f)) (λ f. rw f (picked-works s m))
 
 -- line 8 of the refusal table applies to no packet that passed line 7
-module _ (w : World) (i : Inner w) (e : Asked) where
-  never-barred-8 : barred e (find (e .key) (w .state .table)) (pickOf w (e .key)) (w .state) ≡ 8 → ⊥
+module _ (w : World) (i : Inner w) (e : Request) where
+  never-barred-8 : barred e (find (e .key) (w .state .table)) (pickAt w (e .key)) (w .state) ≡ 8 → ⊥
   never-barred-8 q =
       let r = w .state .roster in
-      let (seven, eight) = barred-8 e (find (e .key) (w .state .table)) (pickOf w (e .key)) (w .state) q in
+      let (seven, eight) = barred-8 e (find (e .key) (w .state .table)) (pickAt w (e .key)) (w .state) q in
       both (is 1 e)
       (λ k.
       let (s, m) = some-member (workingSet r) (not-false (some (workingSet r)) (rw k at seven)) in
@@ -82,14 +82,14 @@ module _ (w : World) (i : Inner w) (e : Asked) where
 -- at a world that a history left
 module _ (w : World) (i : Inner w) (bytes : List ℕ) where
   abbrev number : ℕ
-  number = eventOf bytes (w .state) (w .ring) .told .refusal
+  number = eventOf bytes w .answer .refusal
 
   number-cases : {C : Type 0} (n : ℕ) → 2 < n → number ≡ n
-      → (barred (eventIn bytes) (find (eventIn bytes .key) (w .state .table)) (pickOf w (eventIn bytes .key)) (w .state) ≡ n → C)
+      → (barred (eventIn bytes) (find (eventIn bytes .key) (w .state .table)) (pickAt w (eventIn bytes .key)) (w .state) ≡ n → C)
       → C
   number-cases n high q table =
       judged-number (eventIn bytes) _ _ (w .state) n
-      (sym (ap (λ (d : Done). d .told .refusal) (event-judged w (i .along) bytes)) ∙ q)
+      (sym (ap (λ (d : Done). d .answer .refusal) (event-judged w (i .along) bytes)) ∙ q)
       (λ own. absurd (omega (arith, reading bytes .refusal-small, own)))
       (λ none. absurd (omega arith))
       table

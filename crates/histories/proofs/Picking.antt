@@ -24,14 +24,15 @@ use Rattle.ring.specs.declared.Entry.{Entry}
 use Rattle.ring.specs.Ring.{entryRead, gives}
 use Rattle.ringplan.specs.Plan.{drawn}
 use Rattle.ringplan.proofs.Reading.{ring-reads}
-use Rattle.rules.specs.Rules.{rowsOf, refilled, pickBy}
-use Rattle.histories.specs.Histories.{World, rankingFor}
-use Rattle.histories.proofs.Sizes.{right-sizes, rows-counted}
+use Rattle.rules.specs.Rules.{World, rowsOf, refilled, pickBy}
+use Rattle.histories.specs.Histories.{rankingFor}
+use Rattle.rules.proofs.Sizes.{right-sizes}
+use Rattle.histories.proofs.Sizes.{rows-counted}
 use Rattle.histories.proofs.Inner.{Inner}
 
 -- what a world gives a key that has no record
-abbrev pub pickOf : World → List ℕ → Pick
-pickOf w key = pickBy (F key) (entryRead (w .state .roster .held) (F key) (w .ring)) (w .state)
+abbrev pub pickAt : World → List ℕ → Pick
+pickAt w key = pickBy (F key) (entryRead (w .state .roster .held) (F key) (w .ring)) (w .state)
 
 -- whatever the method, the ranking in force is strict
 pub ranking-strict : (c : Settings) (key : List ℕ) → Strict (rankingFor c key)

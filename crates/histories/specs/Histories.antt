@@ -14,38 +14,24 @@ use Rattle.roster.specs.declared.Roster.{Roster}
 use Rattle.roster.specs.Roster.{sound, stateOf, working, heldServers, workingSet}
 use Rattle.event.specs.Event.{allBytes}
 use Rattle.table.specs.Table.{Rec, entries, noStray}
-use Rattle.ring.specs.declared.Entry.{Entry}
 use Rattle.ringplan.specs.Plan.{drawn}
-use Rattle.rules.specs.Answer.{Told}
-use Rattle.rules.specs.Rules.{State, Done, rowsOf, refilled, sizedFor, startOf, eventOf}
-
--- the lent buffers, the ring and the roster
-pub record World : Type 0 where
-  pub state : State
-  pub ring : List Entry
-
--- the world that an event leaves
-abbrev pub left : Done → World
-left d =
-    record {
-      state = record { table = d .table; rows = d .rows; flags = d .flags; roster = d .roster };
-      ring = d .ring;
-    }
+use Rattle.rules.specs.Answer.{Answer}
+use Rattle.rules.specs.Rules.{World, rowsOf, refilled, sizedFor, startOf, eventOf}
 
 -- what `start` leaves of any former world, and whether it was accepted
 abbrev pub begins : World → World
-begins w = record { state = startOf (w .state) (length (w .ring)) .state; ring = w .ring }
+begins w = startOf w .world
 
 abbrev pub startAccepted : World → Bool
-startAccepted w = startOf (w .state) (length (w .ring)) .told .accepted
+startAccepted w = startOf w .answer .accepted
 
 -- the world after a history of event records, the newest first, and the answer to the next record
 unfoldable pub after : World → List (List ℕ) → World
 after w [] = begins w
-after w (bytes ∷ h) = left (eventOf bytes (after w h .state) (after w h .ring))
+after w (bytes ∷ h) = eventOf bytes (after w h) .world
 
-abbrev pub answer : World → List (List ℕ) → List ℕ → Told
-answer w h bytes = eventOf bytes (after w h .state) (after w h .ring) .told
+abbrev pub answer : World → List (List ℕ) → List ℕ → Answer
+answer w h bytes = eventOf bytes (after w h) .answer
 
 -- the only hypothesis on a history: its numbers are bytes
 abbrev pub AllBytes : List (List ℕ) → Type 0

@@ -29,8 +29,8 @@ use Rattle.ringplan.specs.Plan.{some}
 use Rattle.rules.specs.declared.Reply.{Reply}
 use Rattle.rules.specs.declared.Reply.the-variants.{Refused}
 use Rattle.rules.specs.Answer.{accepts}
-use Rattle.rules.specs.Rules.{State, admitted, judged, barred, effect, target, packet, refused, answered, pickBy}
-use Rattle.answers.specs.Reacting.{stateWith, replied}
+use Rattle.rules.specs.Rules.{stateWith, State, lentBar, admitted, judged, barred, effect, target, packet, refused, answered, pickBy}
+use Rattle.answers.specs.Reacting.{replied}
 use Rattle.packets.specs.Lent.{Lent}
 
 -- ---- a sound roster: who works is in the working set, and the choice over that set works
@@ -67,13 +67,13 @@ module _ (key t rows flags : List ℕ) (pick : Pick) (r : Roster) (found : Findi
   packet-on e w = rw (e, eq-eqb (stateOf (target found pick st) r) 1 w)
 
   -- a roster that isn't sound
-  pub packet-11 : sound r ≡ false → refused 11 st ≡ judged (admitted true (sound r) (asksKey 1 key)) found pick st
-  unfolding admitted judged
+  pub packet-11 : sound r ≡ false → refused 11 st ≡ judged (admitted (lentBar true (sound r)) (asksKey 1 key)) found pick st
+  unfolding admitted lentBar judged
   packet-11 f = rw f
 
   pub packet-admitted : sound r ≡ true
-      → judged (asksKey 1 key) found pick st ≡ judged (admitted true (sound r) (asksKey 1 key)) found pick st
-  unfolding admitted
+      → judged (asksKey 1 key) found pick st ≡ judged (admitted (lentBar true (sound r)) (asksKey 1 key)) found pick st
+  unfolding admitted lentBar
   packet-admitted e = rw e
 
   module _ (ss xs : List ℕ) (l : Lent r ss xs) where

@@ -14,13 +14,12 @@ ghost use Rattle.sets.specs.Sets.{inState};
 ghost use lib.Dec.{eqb};
 ghost use Rattle.rows.specs.Rows.{rowRead};
 ghost use Rattle.ring.specs.Ring.{gives};
-ghost use Rattle.roster.specs.Roster.{sound as sound-of};
 ghost use Rattle.event.specs.Event.{asksKey};
-ghost use Rattle.table.specs.Table.{Finding, told as told-found};
+ghost use Rattle.table.specs.Table.{Finding, findingOf};
 ghost use Rattle.ringplan.specs.Plan.{some};
-ghost use Rattle.rules.specs.Rules.{admitted, judged, pickBy, packet as packet-done};
-ghost use Rattle.answers.specs.Reacting.{stateWith, replied};
-ghost use Rattle.packets.specs.Lent.{Lent};
+ghost use Rattle.rules.specs.Rules.{stateWith, judged, packet as packet-done};
+ghost use Rattle.answers.specs.Reacting.{replied};
+ghost use Rattle.packets.specs.Lent.{Lent, ledOf, packetOf};
 
 // A packet: refused with 11 where the roster hasn't its stated form.
 pub fn packet(
@@ -34,7 +33,7 @@ pub fn packet(
     r: Roster,
 ) -> Reply
     ensures { λ v. ⌜ replied v (now (table .exit)) (now (rows .entry)) (now (flags .entry)) r
-        ≡ judged (admitted true (sound-of r) (asksKey 1 key)) (told-found found) (pickBy f spot (stateWith (now (table .entry)) (now (rows .entry)) (now (flags .entry)) r)) (stateWith (now (table .entry)) (now (rows .entry)) (now (flags .entry)) r) ⌝ }
+        ≡ packetOf key found f spot (stateWith (now (table .entry)) (now (rows .entry)) (now (flags .entry)) r) ⌝ }
 {
     let held = r.held;
     let servers = r.servers;
@@ -72,7 +71,7 @@ fn lead(
 ) -> Reply
     ensures { λ v. ⌜ ((r : Roster) → Lent r (now (servers .entry)) (now (states .entry)) → r .settings ≡ settings
         → replied v (now (table .exit)) (now (rows .entry)) (now (flags .entry)) r
-        ≡ judged (asksKey 1 key) (told-found found) (pickBy f spot (stateWith (now (table .entry)) (now (rows .entry)) (now (flags .entry)) r)) (stateWith (now (table .entry)) (now (rows .entry)) (now (flags .entry)) r)) ⌝ }
+        ≡ ledOf key found f spot (stateWith (now (table .entry)) (now (rows .entry)) (now (flags .entry)) r)) ⌝ }
 {
     match found {
         Found::At(place) => known(place, table, servers, states),
@@ -109,7 +108,7 @@ fn read_pick(f: u32, spot: Entry, rows: &[u32], flags: &[u8], settings: Settings
 // A key with a record: its server, or a refusal.
 fn known(place: usize, table: &[u8], servers: &[u32], states: &[u8]) -> Reply
     ensures { λ v. ⌜ ((key : List ℕ) (pick : Pick) (rows flags : List ℕ) (r : Roster) → Lent r (now (servers .entry)) (now (states .entry))
-        → replied v (now (table .entry)) rows flags r ≡ judged (asksKey 1 key) (told-found (Found.At place)) pick (stateWith (now (table .entry)) rows flags r)) ⌝ }
+        → replied v (now (table .entry)) rows flags r ≡ judged (asksKey 1 key) (findingOf (Found.At place)) pick (stateWith (now (table .entry)) rows flags r)) ⌝ }
 {
     let server = table::server_at(table, place);
     if roster::parts::state_in(servers, states, server) != 1 {
@@ -125,7 +124,7 @@ fn known(place: usize, table: &[u8], servers: &[u32], states: &[u8]) -> Reply
 // The server picked, which works: it is recorded where it is unsafe and there is room.
 fn settle(key: [u8; 13], used: usize, pick: Pick, table: &mut [u8]) -> Reply
     ensures { λ v. ⌜ ((rows flags : List ℕ) (r : Roster)
-        → replied v (now (table .exit)) rows flags r ≡ packet-done key (told-found (Found.Nothing used)) pick (stateWith (now (table .entry)) rows flags r)) ⌝ }
+        → replied v (now (table .exit)) rows flags r ≡ packet-done key (findingOf (Found.Nothing used)) pick (stateWith (now (table .entry)) rows flags r)) ⌝ }
 {
     let server = pick.server;
     if !pick.flag {

@@ -1,3 +1,4 @@
 pub mod Apart
 pub mod Unique
 pub mod Refusals
+pub mod Sizes

@@ -5,19 +5,19 @@ use Rattle.rules.specs.declared.Reply.{Reply}
 use Rattle.rules.specs.declared.Reply.the-variants.{Accepted, Refused}
 
 -- "A refusal returns its number, server 0, mark 0, reads 0"; an accepted event has refusal 0
-pub record Told : Type 0 where
+pub record Answer : Type 0 where
   pub accepted : Bool
   pub refusal : ℕ
   pub server : ℕ
   pub mark : ℕ
   pub reads : ℕ
 
-abbrev pub accepts : ℕ → ℕ → ℕ → Told
+abbrev pub accepts : ℕ → ℕ → ℕ → Answer
 accepts s mark reads = record { accepted = true; refusal = 0; server = s; mark = mark; reads = reads }
 
-abbrev pub refuses : ℕ → Told
+abbrev pub refuses : ℕ → Answer
 refuses n = record { accepted = false; refusal = n; server = 0; mark = 0; reads = 0 }
 
-abbrev pub told : Reply → Told
-told (Accepted s mark reads) = accepts s mark reads
-told (Refused n) = refuses n
+abbrev pub answerOf : Reply → Answer
+answerOf (Accepted s mark reads) = accepts s mark reads
+answerOf (Refused n) = refuses n

@@ -2,6 +2,7 @@
 use Prim.Native.Nat.{ℕ, _%_, _^_}
 use mathlib.Core.Bool.{Bool, true, false, cond, not, _&&_, _||_}
 use mathlib.Core.List.{List, [], _∷_}
+use mathlib.Core.Path.{_≡_}
 use lib.Dec.{eqb, leb, ltb}
 use lib.ListN.{length}
 use Rattle.hash.specs.Hash.{F}
@@ -11,14 +12,14 @@ use Rattle.ranking.specs.Methods.{hrw}
 use Rattle.settings.specs.declared.Settings.{Settings}
 use Rattle.roster.specs.declared.Roster.{Roster}
 use Rattle.roster.specs.Roster.{sound, working, standby, stateOf, workingSet, horizon, heldServers, addedWorking, removedWorking, addedHorizon, removedHorizon, emptyRoster}
-use Rattle.event.specs.Event.{Asked, refusedBy, eventIn}
+use Rattle.event.specs.Event.{Request, refusedBy, eventIn}
 use Rattle.table.specs.Table.{Finding, find, serverAt, room, used, writtenAfter, removed, removedServer, started}
 use Rattle.rows.specs.Rows.{Rows, filled, cleared, rowRead}
 use Rattle.ring.specs.declared.Entry.{Entry}
 use Rattle.ring.specs.Ring.{entryRead, gives}
 use Rattle.ringplan.specs.Plan.{some, drawn}
-use Rattle.rules.specs.declared.Outcome.{Outcome}
-use Rattle.rules.specs.Answer.{Told, accepts, refuses, told}
+use Rattle.rules.specs.declared.Reply.{Reply}
+use Rattle.rules.specs.Answer.{Answer, accepts, refuses, answerOf}
 
 -- the lent buffers but the ring, and the roster
 pub record State : Type 0 where
@@ -27,9 +28,20 @@ pub record State : Type 0 where
   pub flags : List ℕ
   pub roster : Roster
 
+abbrev pub stateWith : List ℕ → List ℕ → List ℕ → Roster → State
+stateWith t rows flags r = record { table = t; rows = rows; flags = flags; roster = r }
+
+-- all that an event meets and leaves: the lent buffers, the ring and the roster
+pub record World : Type 0 where
+  pub state : State
+  pub ring : List Entry
+
+abbrev pub worldWith : List ℕ → List ℕ → List ℕ → List Entry → Roster → World
+worldWith t rows flags ring r = record { state = stateWith t rows flags r; ring = ring }
+
 -- what an event comes to: the answer, the state afterwards, and whether the ring is drawn anew for the roster afterwards
 pub record Change : Type 0 where
-  pub told : Told
+  pub answer : Answer
   pub state : State
   pub redraw : Bool
 
@@ -48,12 +60,16 @@ sizesRight tableLength rowsLength flagsLength ringLength =
     (cond (eqb rowsLength 4096)
     (cond (eqb flagsLength 4096) (eqb ringLength 64) false) false) false) false)
 
--- refusals 9 and 11, and then the record's own: 1 or 2
-unfoldable pub admitted : Bool → Bool → Asked → Asked
-admitted sized rosterSound e = cond sized (cond rosterSound e (refusedBy 11)) (refusedBy 9)
+-- what is lent bars every event: 9, then 11; 0 where neither does
+unfoldable pub lentBar : Bool → Bool → ℕ
+lentBar sized rosterSound = first (not sized) 9 (first (not rosterSound) 11 0)
+
+-- an event that what is lent bars by a number; else the event, whose record may have a refusal of its own: 1 or 2
+unfoldable pub admitted : ℕ → Request → Request
+admitted n e = cond (eqb n 0) e (refusedBy n)
 
 -- the event is of a kind; a refused one is of kind 0
-abbrev pub is : ℕ → Asked → Bool
+abbrev pub is : ℕ → Request → Bool
 is kind e = eqb (e .kind) kind
 
 -- "configure while roster or used part is not empty"
@@ -65,7 +81,7 @@ abbrev pub target : Finding → Pick → State → ℕ
 target found pick st = cond (found .found) (serverAt (found .reads) (st .table)) (pick .server)
 
 -- refusals 10, 3, 6, 4, 5, 7, 8, in this order
-unfoldable pub barred : Asked → Finding → Pick → State → ℕ
+unfoldable pub barred : Request → Finding → Pick → State → ℕ
 barred e found pick st =
     first (is 7 e && not (empty st)) 10
     (first (is 5 e && not (eqb (stateOf (e .server) (st .roster)) 0)) 3
@@ -80,13 +96,13 @@ barred e found pick st =
 
 -- "A refusal returns its number, server 0, mark 0, reads 0, and every buffer and the roster stay the same."
 abbrev pub refused : ℕ → State → Change
-refused n st = record { told = refuses n; state = st; redraw = false }
+refused n st = record { answer = refuses n; state = st; redraw = false }
 
 abbrev pub withTable : List ℕ → State → State
-withTable t st = record { table = t; rows = st .rows; flags = st .flags; roster = st .roster }
+withTable t st = stateWith t (st .rows) (st .flags) (st .roster)
 
-abbrev pub answered : Told → List ℕ → State → Change
-answered a t st = record { told = a; state = withTable t st; redraw = false }
+abbrev pub answered : Answer → List ℕ → State → Change
+answered a t st = record { answer = a; state = withTable t st; redraw = false }
 
 -- "if the key has a record, its server. Otherwise the choice .. If .. it is unsafe [it] is recorded where there is room." Marks 1, 2, 3, 4.
 unfoldable pub packet : List ℕ → Finding → Pick → State → Change
@@ -113,14 +129,14 @@ rowsOf st = record { servers = st .rows; flags = st .flags }
 unfoldable pub refilled : Roster → Rows → Rows
 refilled r rows = cond (eqb (r .settings .method) 3) (filled (r .settings .rows) (workingSet r) (horizon r) rows) rows
 
+-- "Other accepted events carry server, mark and reads 0"
+abbrev pub taken : Bool → State → Change
+taken redraw st = record { answer = accepts 0 0 0; state = st; redraw = redraw }
+
 -- an accepted roster change: "the rows or entries in use hold exactly what the new sets give". "Methods 1 and 3 don't touch the ring."
 abbrev pub changed : Roster → List ℕ → State → Change
 changed r t st =
-    record {
-      told = accepts 0 0 0;
-      state = record { table = t; rows = refilled r (rowsOf st) .servers; flags = refilled r (rowsOf st) .flags; roster = r };
-      redraw = eqb (r .settings .method) 2;
-    }
+    taken (eqb (r .settings .method) 2) (stateWith t (refilled r (rowsOf st) .servers) (refilled r (rowsOf st) .flags) r)
 
 -- "it selects the method and zeroes the rows it counts and their flags"
 abbrev pub withSettings : Settings → Roster → Roster
@@ -128,20 +144,11 @@ withSettings c r = record { servers = r .servers; states = r .states; held = r .
 
 abbrev pub configured : Settings → State → Change
 configured c st =
-    record {
-      told = accepts 0 0 0;
-      state =
-          record {
-            table = st .table;
-            rows = cleared (c .rows) (rowsOf st) .servers;
-            flags = cleared (c .rows) (rowsOf st) .flags;
-            roster = withSettings c (st .roster);
-          };
-      redraw = false;
-    }
+    taken false
+    (stateWith (st .table) (cleared (c .rows) (rowsOf st) .servers) (cleared (c .rows) (rowsOf st) .flags) (withSettings c (st .roster)))
 
 -- by kind; "Remove working takes away every record naming that server."
-unfoldable pub effect : Asked → Finding → Pick → State → Change
+unfoldable pub effect : Request → Finding → Pick → State → Change
 effect e found pick st =
     cond (is 1 e) (packet (e .key) found pick st)
     (cond (is 2 e) (end found st)
@@ -152,7 +159,7 @@ effect e found pick st =
     (configured (e .settings) st))))))
 
 -- "Tested in this order; the first that applies is given."
-unfoldable pub judged : Asked → Finding → Pick → State → Change
+unfoldable pub judged : Request → Finding → Pick → State → Change
 judged e found pick st =
     cond (is 0 e) (refused (e .refusal) st)
     (cond (eqb (barred e found pick st) 0) (effect e found pick st) (refused (barred e found pick st) st))
@@ -171,52 +178,48 @@ pickBy f spot st =
 abbrev pub sizedFor : ℕ → State → Bool
 sizedFor ringLength st = sizesRight (length (st .table)) (length (st .rows)) (length (st .flags)) ringLength
 
--- all that an event leaves: the answer, the buffers, the roster and the ring
+-- all that an event leaves: the answer, and the world afterwards
 pub record Done : Type 0 where
-  pub told : Told
-  pub table : List ℕ
-  pub rows : List ℕ
-  pub flags : List ℕ
-  pub ring : List Entry
-  pub roster : Roster
+  pub answer : Answer
+  pub world : World
 
 -- "Entries in use equal the roster's size; the rest stay as they are."
 abbrev pub settled : Change → List Entry → Done
 settled c ring =
     record {
-      told = c .told;
-      table = c .state .table;
-      rows = c .state .rows;
-      flags = c .state .flags;
-      ring = cond (c .redraw) (drawn (heldServers (c .state .roster)) (workingSet (c .state .roster)) ring) ring;
-      roster = c .state .roster;
+      answer = c .answer;
+      world =
+          record {
+            state = c .state;
+            ring = cond (c .redraw) (drawn (heldServers (c .state .roster)) (workingSet (c .state .roster)) ring) ring;
+          };
     }
 
--- an event record of bytes meets buffers, roster and ring
-unfoldable pub eventOf : List ℕ → State → List Entry → Done
-eventOf bytes st ring =
-    let e = admitted (sizedFor (length ring) st) (sound (st .roster)) (eventIn bytes) in
+-- an event record of bytes meets a world
+unfoldable pub eventOf : List ℕ → World → Done
+eventOf bytes w =
+    let st = w .state in
+    let e = admitted (lentBar (sizedFor (length (w .ring)) st) (sound (st .roster))) (eventIn bytes) in
     let f = F (e .key) in
     let found = find (e .key) (st .table) in
-    let pick = pickBy f (entryRead (st .roster .held) f ring) st in
-    settled (judged e found pick st) ring
+    let pick = pickBy f (entryRead (st .roster .held) f (w .ring)) st in
+    settled (judged e found pick st) (w .ring)
 
 -- "Starting zeroes the whole table, empties the roster and selects method 1"; "A start is refused only by 9; accepted, it replies server,
 -- mark and reads 0 and leaves rows, flags and ring as they are."
-unfoldable pub startOf : State → ℕ → Change
-startOf st ringLength =
-    cond (sizedFor ringLength st)
-    (record {
-      told = accepts 0 0 0;
-      state = record { table = started (st .table); rows = st .rows; flags = st .flags; roster = emptyRoster };
-      redraw = false;
-    })
-    (refused 9 st)
+unfoldable pub startOf : World → Done
+startOf w =
+    let st = w .state in
+    cond (sizedFor (length (w .ring)) st)
+    (record { answer = accepts 0 0 0; world = worldWith (started (st .table)) (st .rows) (st .flags) (w .ring) emptyRoster })
+    (record { answer = refuses 9; world = w })
 
--- ---- what the public functions' promises say: the answer with every buffer, the ring and the roster afterwards
-abbrev pub done : Outcome → List ℕ → List ℕ → List ℕ → List Entry → Done
-done o t rows flags ring =
-    record { told = told (o .reply); table = t; rows = rows; flags = flags; ring = ring; roster = o .roster }
+-- ---- what the public functions promise: the reply and the world afterwards, from the world before
 
-abbrev pub startDone : State → List Entry → Done
-startDone st ring = settled (startOf st (length ring)) ring
+-- `event` on a record of bytes
+abbrev pub EventPromise : List ℕ → World → World → Reply → Type 0
+EventPromise bytes before after reply = record { answer = answerOf reply; world = after } ≡ eventOf bytes before
+
+-- `start`
+abbrev pub StartPromise : World → World → Reply → Type 0
+StartPromise before after reply = record { answer = answerOf reply; world = after } ≡ startOf before

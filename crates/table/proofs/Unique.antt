@@ -6,10 +6,10 @@ use mathlib.Core.Path.{_≡_, refl, sym, ap, _∙_}
 use Rattle.sets.proofs.Cases.{clash}
 use Rattle.table.specs.declared.Found.{Found}
 use Rattle.table.specs.declared.Found.the-variants.{At, Nothing}
-use Rattle.table.specs.Table.{used, Finding, find, told, serverAt, writtenAfter, removed, removedServer, started}
+use Rattle.table.specs.Table.{used, Finding, find, findingOf, serverAt, writtenAfter, removed, removedServer, started}
 
 -- `told` tells any two answers apart
-pub told-apart : (x y : Found) → told x ≡ told y → x ≡ y
+pub told-apart : (x y : Found) → findingOf x ≡ findingOf y → x ≡ y
 told-apart (At m) (At n) e = ap At (ap (λ (f : Finding). f .reads) e)
 told-apart (At m) (Nothing n) e = clash refl (ap (λ (f : Finding). f .found) e)
 told-apart (Nothing m) (At n) e = clash (ap (λ (f : Finding). f .found) e) refl
@@ -19,7 +19,7 @@ module _ (t : List ℕ) where
   pub used-unique : (x y : ℕ) → x ≡ used t → y ≡ used t → x ≡ y
   used-unique x y p q = p ∙ sym q
 
-  pub find-unique : (key : List ℕ) (x y : Found) → told x ≡ find key t → told y ≡ find key t → x ≡ y
+  pub find-unique : (key : List ℕ) (x y : Found) → findingOf x ≡ find key t → findingOf y ≡ find key t → x ≡ y
   find-unique key x y p q = told-apart x y (p ∙ sym q)
 
   pub server-at-unique : (place x y : ℕ) → x ≡ serverAt place t → y ≡ serverAt place t → x ≡ y

@@ -62,9 +62,9 @@ unfoldable pub find : List ℕ → List ℕ → Finding
 find key t = findAmong key 0 (usedPart t)
 
 -- what each case of the answer tells
-abbrev pub told : Found → Finding
-told (At place) = record { found = true; reads = place }
-told (Nothing used) = record { found = false; reads = used }
+abbrev pub findingOf : Found → Finding
+findingOf (At place) = record { found = true; reads = place }
+findingOf (Nothing used) = record { found = false; reads = used }
 
 -- the server that the record at a place, counted from 1, names (0 where the table has no such place)
 unfoldable pub serverAt : ℕ → List ℕ → ℕ

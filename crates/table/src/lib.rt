@@ -7,7 +7,7 @@ ghost use lib.Seq.{paste};
 ghost use mathlib.Core.Bool.{false, cond};
 ghost use lib.Dec.{eqb};
 ghost use Rattle.words.specs.Words.{wordAt, BytesAt};
-ghost use Rattle.table.specs.Table.{usedTag, used as used-of, find as find-of, told, serverAt, newRecord, writtenAfter, removed, removedServer, started};
+ghost use Rattle.table.specs.Table.{usedTag, used as used-of, find as find-of, findingOf, serverAt, newRecord, writtenAfter, removed, removedServer, started};
 
 // Where a key's record is, or, where it has none, how many records are used: either way the number of used records read.
 pub enum Found {
@@ -41,7 +41,7 @@ pub fn used(table: &[u8]) -> usize
 
 // The first used record with a key.
 pub fn find(table: &[u8], key: [u8; 13]) -> Found
-    ensures { λ r. ⌜ told r ≡ find-of key (now (table .entry)) ⌝ }
+    ensures { λ r. ⌜ findingOf r ≡ find-of key (now (table .entry)) ⌝ }
 {
     let front = word_at(&key, 0);
     let back = word_at(&key, 5);

@@ -43,17 +43,10 @@ use denote.Plain.{Nothing, nothing-lawful}
 use lib.ListN.{length-map}
 use Rattle.ring.specs.declared.Entry.{Entry}
 use Rattle.ring.specs.Ring.{entryRead}
-use Rattle.roster.specs.Roster.{sound as sound-of}
 use Rattle.event.specs.Event.{eventIn}
-use Rattle.event.specs.Event.{told as told-event}
-use Rattle.table.specs.Table.{told as told-found}
-use Rattle.rules.specs.Rules.{sizesRight, admitted, pickBy}
-use Rattle.engine.specs.Looking.{seenAs, lookOf}
-use Rattle.answers.specs.Reacting.{stateWith, reacted}
-use Rattle.rules.specs.Rules.{eventOf}
-use Rattle.rules.specs.Rules.{judged}
-use Rattle.rules.specs.Rules.{done as done-with}
-use Rattle.engine.specs.Looking.{redrawn}
+use Rattle.rules.specs.Rules.{stateWith, worldWith, sizesRight, EventPromise}
+use Rattle.engine.specs.Looking.{lookupFacts, lookOf, reactOf, redrawn}
+use Rattle.answers.specs.Reacting.{reacted}
 use Rattle.engine.proofs.Whole.{whole-event}
 use Rattle.ring.proofs.Entry as T
 use Rattle.ring.proofs.Entry.Laws as T′
@@ -62,13 +55,13 @@ use Rattle.ring.proofs.Slices.{ref, sval, Shr, Mut}
 use Rattle.ring.proofs.Loans.{lend-shr, back-shr}
 use Rattle.ring.proofs.Steps.{bare, here, local, has, free-all}
 use Rattle.roster.specs.declared.Roster.{Roster}
-use Rattle.engine.specs.declared.Seen.{Seen}
+use Rattle.engine.specs.declared.Lookup.{Lookup}
 use Rattle.answers.specs.declared.Reaction.{Reaction}
 use Rattle.rules.specs.declared.Outcome.{Outcome}
 use Rattle.roster.proofs.Roster as Ro
 use Rattle.roster.proofs.Roster.Laws as RoL
-use Rattle.engine.proofs.Seen as Se
-use Rattle.engine.proofs.Seen.Laws as SeL
+use Rattle.engine.proofs.Lookup as Se
+use Rattle.engine.proofs.Lookup.Laws as SeL
 use Rattle.answers.proofs.Reaction as Re
 use Rattle.answers.proofs.Reaction.Laws as ReL
 use Rattle.rules.proofs.Outcome as Oc
@@ -110,7 +103,7 @@ abbrev outcome : Reaction → Outcome
 outcome r = record { reply = r .reply; roster = r .roster }
 
 -- the machine value that a row relates to a value is the one that its laws write
-seen-is : (r : Seen) (v : Val) → Is Se.the-row r (v ∷ []) → Is Se.the-row r (LL.vals Se.the-type SeL.the-laws r)
+seen-is : (r : Lookup) (v : Val) → Is Se.the-row r (v ∷ []) → Is Se.the-row r (LL.vals Se.the-type SeL.the-laws r)
 seen-is r v is = subst (Is Se.the-row r) (LL.tells Se.the-type SeL.the-laws r _ is) is
 
 entry-is : (r : Entry) (v : Val) → Is E r (v ∷ []) → Is E r (LL.vals T.the-type T′.the-laws r)
@@ -153,7 +146,7 @@ module _ {M : Type 1} (𝓤 : URA M) (H : Heap 𝓤) (A : Atoms 𝓤) (W : Given
 
   -- the end: the tokens and what is left of the parameters, and what the contract says of the result
   exits : (r : Reaction) → Is Re.the-row r (LL.vals Re.the-type ReL.the-laws r) → (table′ rows′ flags′ : List ℕ) (zs : List Entry)
-      → done-with (outcome r) table′ rows′ flags′ zs ≡ eventOf bytes (stateWith table rows flags roster) es → length table′ ≡ length table
+      → EventPromise bytes (worldWith table rows flags es roster) (worldWith table′ rows′ flags′ zs (r .roster)) (r .reply) → length table′ ≡ length table
       → length rows′ ≡ length rows → length flags′ ≡ length flags → length zs ≡ length es
       → ent 𝓤 (⋆ 𝓤 H A (‵ (flft κ₀ q₀) ∷ ‵ (flft κ₁ q₁) ∷ ‵ (flft κ₂ q₂) ∷ ‵ (flft κ₃ q₃) ∷ ‵ (flft κ₄ q₄) ∷ ‵ (Shr (named 0) κ₀ u8 b₀ o₀ γ₀ bytes) ∷
       ‵ (finally u8 γ₁ table′) ∷ ‵ (finally u32 γ₂ rows′) ∷ ‵ (finally u8 γ₃ flags′) ∷ ‵ (finally E γ₄ zs) ∷ []))
@@ -197,15 +190,15 @@ module _ {M : Type 1} (𝓤 : URA M) (H : Heap 𝓤) (A : Atoms 𝓤) (W : Given
       move ! (1 ∷ 0 ∷ []) $ fjoin ! $ done !
 
   -- the call of `read`: what its contract is told, and that the walk has what it asks
-  abbrev args-read : (ν₂ : ℕ) (δ₂ : GName) (r₁ : Seen) (g₁ : Is Se.the-row r₁ (LL.vals Se.the-type SeL.the-laws r₁))
+  abbrev args-read : (ν₂ : ℕ) (δ₂ : GName) (r₁ : Lookup) (g₁ : Is Se.the-row r₁ (LL.vals Se.the-type SeL.the-laws r₁))
       → Args read.signature ((ν₂ ∷ []), tt)
   args-read ν₂ δ₂ r₁ g₁ = (ref b₄ o₄ δ₂ es, (r₁ .places, (r₁ .f, tt)))
 
-  abbrev to-read : (ν₂ : ℕ) (δ₂ : GName) (r₁ : Seen) (g₁ : Is Se.the-row r₁ (LL.vals Se.the-type SeL.the-laws r₁)) → Read 𝓤 H A mem run .Ghost
+  abbrev to-read : (ν₂ : ℕ) (δ₂ : GName) (r₁ : Lookup) (g₁ : Is Se.the-row r₁ (LL.vals Se.the-type SeL.the-laws r₁)) → Read 𝓤 H A mem run .Ghost
   to-read ν₂ δ₂ r₁ g₁ =
       ((((ν₂ ∷ []), tt), (fullShare, tt), tt, (ref b₄ o₄ δ₂ es, (r₁ .places, (r₁ .f, tt))), (sval b₄ o₄ es ∷ [], (vint w64 (r₁ .places) ∷ [], (vint w32 (r₁ .f) ∷ [], tt)))), tt)
 
-  goes-read : (ν₂ : ℕ) (δ₂ : GName) (r₁ : Seen) (g₁ : Is Se.the-row r₁ (LL.vals Se.the-type SeL.the-laws r₁))
+  goes-read : (ν₂ : ℕ) (δ₂ : GName) (r₁ : Lookup) (g₁ : Is Se.the-row r₁ (LL.vals Se.the-type SeL.the-laws r₁))
       → ent 𝓤 (⋆ 𝓤 H A ((‵ (flft (ν₂ ∷ []) fullShare) ⊛ ‵ ftrue) ∷ ‵ (Shr (named 0) (ν₂ ∷ []) E b₄ o₄ δ₂ es) ∷ []))
       (Read 𝓤 H A mem run .pre (to-read ν₂ δ₂ r₁ g₁))
   goes-read ν₂ δ₂ r₁ g₁ =
@@ -215,16 +208,16 @@ module _ {M : Type 1} (𝓤 : URA M) (H : Heap 𝓤) (A : Atoms 𝓤) (W : Given
       (refl, LL.owed Se.the-type SeL.the-laws r₁ _ g₁ .1 .1 .1 .0 .1) $ fjoin ! $ move ! (1 ∷ 0 ∷ []) $ fjoin ! $ done !
 
   -- the call of `react`: what its contract is told, and that the walk has what it asks
-  abbrev args-react : (r₁ : Seen) (g₁ : Is Se.the-row r₁ (LL.vals Se.the-type SeL.the-laws r₁)) (r₂ : Entry)
+  abbrev args-react : (r₁ : Lookup) (g₁ : Is Se.the-row r₁ (LL.vals Se.the-type SeL.the-laws r₁)) (r₂ : Entry)
       (g₂ : Is E r₂ (LL.vals T.the-type T′.the-laws r₂)) → Args react.signature (κ₁, (κ₂, (κ₃, tt)))
   args-react r₁ g₁ r₂ g₂ = (r₁, (r₂, (ref b₁ o₁ γ₁ table, (ref b₂ o₂ γ₂ rows, (ref b₃ o₃ γ₃ flags, (roster, tt))))))
 
-  abbrev to-react : (r₁ : Seen) (g₁ : Is Se.the-row r₁ (LL.vals Se.the-type SeL.the-laws r₁)) (r₂ : Entry)
+  abbrev to-react : (r₁ : Lookup) (g₁ : Is Se.the-row r₁ (LL.vals Se.the-type SeL.the-laws r₁)) (r₂ : Entry)
       (g₂ : Is E r₂ (LL.vals T.the-type T′.the-laws r₂)) → React 𝓤 H A mem run .Ghost
   to-react r₁ g₁ r₂ g₂ =
       (((κ₁, (κ₂, (κ₃, tt))), (q₁, (q₂, (q₃, tt))), tt, (r₁, (r₂, (ref b₁ o₁ γ₁ table, (ref b₂ o₂ γ₂ rows, (ref b₃ o₃ γ₃ flags, (roster, tt)))))), (LL.vals Se.the-type SeL.the-laws r₁, (LL.vals T.the-type T′.the-laws r₂, (sval b₁ o₁ table ∷ [], (sval b₂ o₂ rows ∷ [], (sval b₃ o₃ flags ∷ [], (LL.vals Ro.the-type RoL.the-laws roster, tt))))))), tt)
 
-  goes-react : (r₁ : Seen) (g₁ : Is Se.the-row r₁ (LL.vals Se.the-type SeL.the-laws r₁)) (r₂ : Entry)
+  goes-react : (r₁ : Lookup) (g₁ : Is Se.the-row r₁ (LL.vals Se.the-type SeL.the-laws r₁)) (r₂ : Entry)
       (g₂ : Is E r₂ (LL.vals T.the-type T′.the-laws r₂))
       → ent 𝓤 (⋆ 𝓤 H A ((‵ (flft κ₁ q₁) ⊛ ‵ (flft κ₂ q₂) ⊛ ‵ (flft κ₃ q₃) ⊛ ‵ ftrue) ∷
       ‵ (fsep (Mut (named 0) κ₁ u8 b₁ o₁ γ₁ table) (fsep (Mut (named 1) κ₂ u32 b₂ o₂ γ₂ rows) (Mut (named 2) κ₃ u8 b₃ o₃ γ₃ flags))) ∷ []))
@@ -294,15 +287,15 @@ module _ {M : Type 1} (𝓤 : URA M) (H : Heap 𝓤) (A : Atoms 𝓤) (W : Given
       (and-then ! (local ! 37 refl)
       (and-then ! (local ! 35 refl) (and-then ! (local ! 33 refl) (and-then ! (local ! 31 refl) (and-then ! (local ! 47 refl) (no-more !)))))))
       (λ v₁.
-      use1 W (later (some (λ (r₁ : Seen). ((‵ (flft κ₀ q₀) ⊛ ‵ (flft (ν₁ ∷ []) fullShare) ⊛ ‵ ftrue) ⊛ ‵ (Se.the-row .own r₁ (v₁ ∷ []))) ⊛ raw
+      use1 W (later (some (λ (r₁ : Lookup). ((‵ (flft κ₀ q₀) ⊛ ‵ (flft (ν₁ ∷ []) fullShare) ⊛ ‵ ftrue) ⊛ ‵ (Se.the-row .own r₁ (v₁ ∷ []))) ⊛ raw
       (ensured 𝓤 H A look-at.ended (look-at.clauses 𝓤 H A mem run) (κ₀, ((ν₁ ∷ []), tt)) (args-look ν₁ δ₁) tt r₁)))) (id⊢ 𝓤 _) $ await ! tt $
       pick ! (λ r₁.
       split ! $ move ! (1 ∷ []) $
       use1 W (some (λ (zs₁ : Unit {0} × (Unit {0} × (Unit {0} × (Unit {0} × (Unit {0} × (Unit {0} × Unit {0})))))). ‵
       (lasts look-at.ended (κ₀, ((ν₁ ∷ []), tt)) (args-look ν₁ δ₁) zs₁) ⊛ raw
-      (fact 𝓤 (seenAs r₁ ≡ lookOf (sizesRight (length table) (length rows) (length flags) (length es)) (eventIn bytes) table roster)))) (id⊢ 𝓤 _) $ pick ! (λ zs₁.
+      (fact 𝓤 (lookupFacts r₁ ≡ lookOf (sizesRight (length table) (length rows) (length flags) (length es)) (eventIn bytes) table roster)))) (id⊢ 𝓤 _) $ pick ! (λ zs₁.
       split ! $ move ! (1 ∷ []) $
-      heard ! (seenAs r₁ ≡ lookOf (sizesRight (length table) (length rows) (length flags) (length es)) (eventIn bytes) table roster) (λ e₁.
+      heard ! (lookupFacts r₁ ≡ lookOf (sizesRight (length table) (length rows) (length flags) (length es)) (eventIn bytes) table roster) (λ e₁.
       drop ! $ split ! $ split ! $ move ! (1 ∷ []) $ split ! $ move ! (1 ∷ []) $ drop ! $ move ! (2 ∷ []) $
       peeks ! Se.the-row (Is Se.the-row) (shows 𝓤 H A Se.the-row) r₁ (v₁ ∷ []) (λ is₁.
       land ! (here !) (init ! 47 refl (LL.lawful Se.the-type SeL.the-laws 𝓤 H A W .typed r₁ _ is₁ .0)) $
@@ -355,11 +348,9 @@ module _ {M : Type 1} (𝓤 : URA M) (H : Heap 𝓤) (A : Atoms 𝓤) (W : Given
       split ! $ move ! (1 ∷ []) $
       use1 W (some (λ (zs₃ : Unit {0} × (Unit {0} × (List ℕ × (List ℕ × (List ℕ × (Unit {0} × Unit {0})))))). ‵
       (lasts react.ended (κ₁, (κ₂, (κ₃, tt))) (args-react r₁ (seen-is r₁ v₁ is₁) r₂ (entry-is r₂ v₂ is₂)) zs₃) ⊛ raw
-      (fact 𝓤 (reacted r (zs₃ .1 .1 .0) (zs₃ .1 .1 .1 .0) (zs₃ .1 .1 .1 .1 .0) ≡ judged (admitted (r₁ .sized) (sound-of roster) (told-event (r₁ .event))) (told-found (r₁ .found))
-      (pickBy (r₁ .f) r₂ (stateWith table rows flags roster)) (stateWith table rows flags roster))))) (id⊢ 𝓤 _) $ pick ! (λ zs₃.
+      (fact 𝓤 (reacted r (zs₃ .1 .1 .0) (zs₃ .1 .1 .1 .0) (zs₃ .1 .1 .1 .1 .0) ≡ reactOf r₁ r₂ (stateWith table rows flags roster))))) (id⊢ 𝓤 _) $ pick ! (λ zs₃.
       split ! $ move ! (1 ∷ []) $
-      heard ! (reacted r (zs₃ .1 .1 .0) (zs₃ .1 .1 .1 .0) (zs₃ .1 .1 .1 .1 .0) ≡ judged (admitted (r₁ .sized) (sound-of roster) (told-event (r₁ .event))) (told-found (r₁ .found))
-      (pickBy (r₁ .f) r₂ (stateWith table rows flags roster)) (stateWith table rows flags roster)) (λ e₃.
+      heard ! (reacted r (zs₃ .1 .1 .0) (zs₃ .1 .1 .1 .0) (zs₃ .1 .1 .1 .1 .0) ≡ reactOf r₁ r₂ (stateWith table rows flags roster)) (λ e₃.
       fsplit ! $ drop ! $ fsplit ! $ drop ! $ fsplit ! $ fsplit ! $ move ! (1 ∷ []) $ feqL ! (λ n₁. move ! (1 ∷ []) $ fsplit ! $ fsplit ! $
       move ! (1 ∷ []) $ feqL ! (λ n₂. move ! (1 ∷ []) $ fsplit ! $ fsplit ! $ move ! (1 ∷ []) $ feqL ! (λ n₃. move ! (1 ∷ []) $ drop ! $
       move ! (3 ∷ []) $ split ! $ split ! $ move ! (1 ∷ []) $ split ! $ move ! (1 ∷ []) $ split ! $ move ! (1 ∷ []) $ drop ! $ move ! (3 ∷ []) $
@@ -397,7 +388,7 @@ module _ {M : Type 1} (𝓤 : URA M) (H : Heap 𝓤) (A : Atoms 𝓤) (W : Given
       free-all W ! _ (has _ ∷ has _ ∷ has _ ∷ has _ ∷ has _ ∷ has _ ∷ has _ ∷ has _ ∷ has _ ∷ has _ ∷ has _ ∷ has _ ∷ has _ ∷ has _ ∷ has _ ∷ has _ ∷
       has _ ∷ has _ ∷ has _ ∷ has _ ∷ has _ ∷ has _ ∷ has _ ∷ has _ ∷ has _ ∷ has _ ∷ []) tt $
       by ! (exits r (out-is r v₃ is₃) (zs₃ .1 .1 .0) (zs₃ .1 .1 .1 .0) (zs₃ .1 .1 .1 .1 .0) (zs₄ .0)
-      (whole-event bytes table rows flags es roster r₁ r₂ r (zs₃ .1 .1 .0) (zs₃ .1 .1 .1 .0) (zs₃ .1 .1 .1 .1 .0) (zs₄ .0)
+      (whole-event bytes (worldWith table rows flags es roster) r₁ r₂ r (zs₃ .1 .1 .0) (zs₃ .1 .1 .1 .0) (zs₃ .1 .1 .1 .1 .0) (zs₄ .0)
       (servers-64 (r .roster) _
       (LL.owed Re.the-type ReL.the-laws r _
       (out-is r v₃ is₃) .1 .0)) e₁ e₂ e₃ e₄) n₁ n₂ n₃ n₄)))))))))))))))))))))))))))))))))))))))))))))))))))))

@@ -40,11 +40,7 @@ use denote.Exit.{yes}
 use Rattle.ring.specs.declared.Entry.{Entry}
 use Rattle.roster.specs.declared.Roster.{Roster}
 use Rattle.rules.specs.declared.Outcome.{Outcome}
-use Rattle.rules.specs.Rules.{startDone}
-use Rattle.engine.specs.Looking.{begun, beginOf}
-use Rattle.answers.specs.Reacting.{stateWith}
-use Rattle.rules.specs.Rules.{done as done-with}
-use Rattle.engine.proofs.Whole.{whole-start}
+use Rattle.rules.specs.Rules.{worldWith, StartPromise}
 use Rattle.ring.proofs.Entries.{E}
 use Rattle.ring.proofs.Slices.{ref, sval, Shr, Mut}
 use Rattle.ring.proofs.Steps.{bare, here, local, has, free-all}
@@ -91,8 +87,7 @@ module _ {M : Type 1} (𝓤 : URA M) (H : Heap 𝓤) (A : Atoms 𝓤) (W : Given
   Post = walkOf 𝓤 H A start.ended stayed (start.clauses 𝓤 H A mem run) .post bound
 
   -- the end: the tokens and what is left of the parameters, and what the contract says of the result
-  exits : (o : Outcome) → Is Oc.the-row o (LL.vals Oc.the-type OcL.the-laws o) → (table′ : List ℕ) → done-with o table′ rows flags es ≡ startDone
-      (stateWith table rows flags roster) es → length table′ ≡ length table
+  exits : (o : Outcome) → Is Oc.the-row o (LL.vals Oc.the-type OcL.the-laws o) → (table′ : List ℕ) → StartPromise (worldWith table rows flags es roster) (worldWith table′ rows flags es (o .roster)) (o .reply) → length table′ ≡ length table
       → ent 𝓤 (⋆ 𝓤 H A (‵ (flft κ₀ q₀) ∷ ‵ (flft κ₁ q₁) ∷ ‵ (flft κ₂ q₂) ∷ ‵ (flft κ₃ q₃) ∷ ‵ (finally u8 γ₀ table′) ∷
       ‵ (Shr (named 1) κ₁ u32 b₁ o₁ γ₁ rows) ∷ ‵ (Shr (named 2) κ₂ u8 b₂ o₂ γ₂ flags) ∷ ‵ (Shr (named 3) κ₃ E b₃ o₃ γ₃ es) ∷ []))
       (Post (LL.val Oc.the-type OcL.the-laws o))
@@ -162,8 +157,8 @@ module _ {M : Type 1} (𝓤 : URA M) (H : Heap 𝓤) (A : Atoms 𝓤) (W : Given
       split ! $ move ! (1 ∷ []) $
       use1 W (some (λ (zs : List ℕ × (Unit {0} × (Unit {0} × (Unit {0} × (Unit {0} × Unit {0}))))). ‵
       (lasts begin.ended (κ₀, tt) (args-begin) zs) ⊛ raw
-      (fact 𝓤 (begun o (zs .0) ≡ beginOf table (length rows) (length flags) (length es) roster)))) (id⊢ 𝓤 _) $ pick ! (λ zs.
-      split ! $ move ! (1 ∷ []) $ heard ! (begun o (zs .0) ≡ beginOf table (length rows) (length flags) (length es) roster) (λ e. fsplit ! $
+      (fact 𝓤 ((ns ms : List ℕ) (zs′ : List Entry) → length ns ≡ length rows → length ms ≡ length flags → length zs′ ≡ length es → StartPromise (worldWith table ns ms zs′ roster) (worldWith (zs .0) ns ms zs′ (o .roster)) (o .reply))))) (id⊢ 𝓤 _) $ pick ! (λ zs.
+      split ! $ move ! (1 ∷ []) $ heard ! ((ns ms : List ℕ) (zs′ : List Entry) → length ns ≡ length rows → length ms ≡ length flags → length zs′ ≡ length es → StartPromise (worldWith table ns ms zs′ roster) (worldWith (zs .0) ns ms zs′ (o .roster)) (o .reply)) (λ e. fsplit ! $
       fsplit ! $ move ! (1 ∷ []) $ feqL ! (λ k. move ! (1 ∷ []) $ drop ! $ move ! (1 ∷ []) $ split ! $ split ! $ move ! (1 ∷ []) $ drop ! $
       move ! (1 ∷ []) $ peeks ! Oc.the-row (Is Oc.the-row) (shows 𝓤 H A Oc.the-row) o (v ∷ []) (λ is.
       land ! (here !) (init ! 29 refl (LL.lawful Oc.the-type OcL.the-laws 𝓤 H A W .typed o _ is .0)) $
@@ -172,7 +167,7 @@ module _ {M : Type 1} (𝓤 : URA M) (H : Heap 𝓤) (A : Atoms 𝓤) (W : Given
       keep ! (28 ∷ 29 ∷ 26 ∷ 27 ∷ 24 ∷ 25 ∷ 22 ∷ 23 ∷ 20 ∷ 21 ∷ 18 ∷ 19 ∷ 16 ∷ 17 ∷ 14 ∷ 15 ∷ 12 ∷ 13 ∷ 10 ∷ 11 ∷ 8 ∷ 9 ∷ 0 ∷ 4 ∷ 3 ∷ 2 ∷ 1 ∷ 7 ∷ 6 ∷
       5 ∷ []) $
       free-all W ! _ (has _ ∷ has _ ∷ has _ ∷ has _ ∷ has _ ∷ has _ ∷ has _ ∷ has _ ∷ has _ ∷ has _ ∷ has _ ∷ []) tt $
-      by ! (exits o (outcome-is o v is) (zs .0) (whole-start [] table rows flags es roster o (zs .0) e) k))))))))))))))))))
+      by ! (exits o (outcome-is o v is) (zs .0) (e rows flags es refl refl refl) k))))))))))))))))))
 
 -- from the walk to the contract
 module _ {M : Type 1} (𝓤 : URA M) (H : Heap 𝓤) (A : Atoms 𝓤) (W : Given 𝓤 H A) (mem : Memory → SProp 𝓤) (run : Routine → Fun 𝓤) where

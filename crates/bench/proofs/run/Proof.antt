@@ -57,14 +57,13 @@ use Rattle.bench.proofs.work.Plan.Laws as PnL
 use Rattle.bench.proofs.work.Work as Wk
 use Rattle.bench.proofs.work.Work.Laws as WkL
 use Rattle.rules.specs.declared.Outcome.{Outcome}
-use Rattle.answers.specs.Reacting.{stateWith}
 use Rattle.rules.proofs.Outcome as Oc
 use Rattle.rules.proofs.Outcome.Laws as OcL
 use types.Run.{un}
 use mir.Table.{spell}
 use denote.Plain.{Nothing, nothing-lawful}
 use denote.Enum.Laws as NL
-use Rattle.rules.specs.Rules.{done as done-with, eventOf}
+use Rattle.rules.specs.Rules.{worldWith, EventPromise}
 use Rattle.rules.proofs.Reply as Rp
 use Rattle.rules.proofs.Reply.Laws as RpL
 use Rattle.bench.proofs.work.ask as ask
@@ -337,10 +336,10 @@ module _ {M : Type 1} (𝓤 : URA M) (H : Heap 𝓤) (A : Atoms 𝓤) (W : Given
         use1 W (later (some (λ (o : Outcome). ((‵ (flft (ν₁ ∷ []) fullShare) ⊛ ‵ (flft (ν₂ ∷ []) fullShare) ⊛ ‵ (flft (ν₃ ∷ []) fullShare) ⊛ ‵ (flft (ν₄ ∷ []) fullShare) ⊛ ‵ (flft (ν₅ ∷ []) fullShare) ⊛ ‵ ftrue) ⊛ ‵ (Oc.the-row .own o (v₂ ∷ []))) ⊛ raw (ensured 𝓤 H A event.ended (event.clauses 𝓤 H A mem run) ((ν₁ ∷ []), ((ν₂ ∷ []), ((ν₃ ∷ []), ((ν₄ ∷ []), ((ν₅ ∷ []), tt))))) (args-event (s .r) (s .r-is) (zs₁ .0) (s .t) (s .w) (s .f) (s .z) ν₁ δ₁ ν₂ δ₂ ν₃ δ₃ ν₄ δ₄ ν₅ δ₅) tt o)))) (id⊢ 𝓤 _) $ await ! tt $ pick ! (λ o.
         split ! $
         move ! (1 ∷ []) $
-        use1 W (some (λ (zs₂ : Unit {0} × (List ℕ × (List ℕ × (List ℕ × (List Entry × (Unit {0} × Unit {0})))))). ‵ (lasts event.ended ((ν₁ ∷ []), ((ν₂ ∷ []), ((ν₃ ∷ []), ((ν₄ ∷ []), ((ν₅ ∷ []), tt))))) (args-event (s .r) (s .r-is) (zs₁ .0) (s .t) (s .w) (s .f) (s .z) ν₁ δ₁ ν₂ δ₂ ν₃ δ₃ ν₄ δ₄ ν₅ δ₅) zs₂) ⊛ raw (fact 𝓤 (done-with o (zs₂ .1 .0) (zs₂ .1 .1 .0) (zs₂ .1 .1 .1 .0) (zs₂ .1 .1 .1 .1 .0) ≡ eventOf (zs₁ .0) (stateWith (s .t) (s .w) (s .f) (s .r)) (s .z))))) (id⊢ 𝓤 _) $ pick ! (λ zs₂.
+        use1 W (some (λ (zs₂ : Unit {0} × (List ℕ × (List ℕ × (List ℕ × (List Entry × (Unit {0} × Unit {0})))))). ‵ (lasts event.ended ((ν₁ ∷ []), ((ν₂ ∷ []), ((ν₃ ∷ []), ((ν₄ ∷ []), ((ν₅ ∷ []), tt))))) (args-event (s .r) (s .r-is) (zs₁ .0) (s .t) (s .w) (s .f) (s .z) ν₁ δ₁ ν₂ δ₂ ν₃ δ₃ ν₄ δ₄ ν₅ δ₅) zs₂) ⊛ raw (fact 𝓤 (EventPromise (zs₁ .0) (worldWith (s .t) (s .w) (s .f) (s .z) (s .r)) (worldWith (zs₂ .1 .0) (zs₂ .1 .1 .0) (zs₂ .1 .1 .1 .0) (zs₂ .1 .1 .1 .1 .0) (o .roster)) (o .reply))))) (id⊢ 𝓤 _) $ pick ! (λ zs₂.
         split ! $
         move ! (1 ∷ []) $
-        heard ! (done-with o (zs₂ .1 .0) (zs₂ .1 .1 .0) (zs₂ .1 .1 .1 .0) (zs₂ .1 .1 .1 .1 .0) ≡ eventOf (zs₁ .0) (stateWith (s .t) (s .w) (s .f) (s .r)) (s .z)) (λ e₂.
+        heard ! (EventPromise (zs₁ .0) (worldWith (s .t) (s .w) (s .f) (s .z) (s .r)) (worldWith (zs₂ .1 .0) (zs₂ .1 .1 .0) (zs₂ .1 .1 .1 .0) (zs₂ .1 .1 .1 .1 .0) (o .roster)) (o .reply)) (λ e₂.
         fsplit ! $
         drop ! $
         fsplit ! $

@@ -46,8 +46,7 @@ use mathlib.Core.List.{map}
 use Rattle.ring.specs.declared.Entry.{Entry}
 use Rattle.roster.specs.declared.Roster.{Roster}
 use Rattle.rules.specs.declared.Outcome.{Outcome}
-use Rattle.rules.specs.Rules.{done as done-with, eventOf}
-use Rattle.answers.specs.Reacting.{stateWith}
+use Rattle.rules.specs.Rules.{worldWith, EventPromise}
 use Rattle.byvalue.specs.declared.Tried.{Tried}
 use Rattle.byvalue.proofs.Handing.{row-slot, array-onto}
 use Rattle.byvalue.proofs.Tried as Tr
@@ -121,7 +120,7 @@ module _ {M : Type 1} (𝓤 : URA M) (H : Heap 𝓤) (A : Atoms 𝓤) (W : Given
 
   -- the end: the tokens and what is left of the parameters, and what the contract says of the result
   exits : (o : Outcome) → Is Oc.the-row o (LL.vals Oc.the-type OcL.the-laws o) → (zs : List Entry) → Is (Array E 64) zs (array-vals vals zs)
-      → (table′ rows′ flags′ : List ℕ) → done-with o table′ rows′ flags′ zs ≡ eventOf bytes (stateWith table rows flags roster) ring
+      → (table′ rows′ flags′ : List ℕ) → EventPromise bytes (worldWith table rows flags ring roster) (worldWith table′ rows′ flags′ zs (o .roster)) (o .reply)
       → length table′ ≡ length table → length rows′ ≡ length rows → length flags′ ≡ length flags
       → ent 𝓤 (⋆ 𝓤 H A (‵ (flft κ₀ q₀) ∷ ‵ (flft κ₁ q₁) ∷ ‵ (flft κ₂ q₂) ∷ ‵ (flft κ₃ q₃) ∷ ‵ (Shr (named 0) κ₀ u8 b₀ o₀ γ₀ bytes) ∷
       ‵ (finally u8 γ₁ table′) ∷ ‵ (finally u32 γ₂ rows′) ∷ ‵ (finally u8 γ₃ flags′) ∷ [])) (Post (LL.val Tr.the-type TrL.the-laws (tried o zs)))
@@ -224,10 +223,9 @@ module _ {M : Type 1} (𝓤 : URA M) (H : Heap 𝓤) (A : Atoms 𝓤) (W : Given
       split ! $ move ! (1 ∷ []) $
       use1 W (some (λ (zs₂ : Unit {0} × (List ℕ × (List ℕ × (List ℕ × (List Entry × (Unit {0} × Unit {0})))))). ‵
       (lasts event-at.ended (κ₀, (κ₁, (κ₂, (κ₃, ((ν ∷ []), tt))))) (args-event l₇ ν δ) zs₂) ⊛ raw
-      (fact 𝓤 (done-with o (zs₂ .1 .0) (zs₂ .1 .1 .0) (zs₂ .1 .1 .1 .0) (zs₂ .1 .1 .1 .1 .0) ≡ eventOf bytes
-      (stateWith table rows flags roster) ring)))) (id⊢ 𝓤 _) $ pick ! (λ zs₂.
+      (fact 𝓤 (EventPromise bytes (worldWith table rows flags ring roster) (worldWith (zs₂ .1 .0) (zs₂ .1 .1 .0) (zs₂ .1 .1 .1 .0) (zs₂ .1 .1 .1 .1 .0) (o .roster)) (o .reply))))) (id⊢ 𝓤 _) $ pick ! (λ zs₂.
       split ! $ move ! (1 ∷ []) $
-      heard ! (done-with o (zs₂ .1 .0) (zs₂ .1 .1 .0) (zs₂ .1 .1 .1 .0) (zs₂ .1 .1 .1 .1 .0) ≡ eventOf bytes (stateWith table rows flags roster) ring)
+      heard ! (EventPromise bytes (worldWith table rows flags ring roster) (worldWith (zs₂ .1 .0) (zs₂ .1 .1 .0) (zs₂ .1 .1 .1 .0) (zs₂ .1 .1 .1 .1 .0) (o .roster)) (o .reply))
       (λ e₂.
       fsplit ! $ drop ! $ fsplit ! $ fsplit ! $ move ! (1 ∷ []) $ feqL ! (λ k₁. move ! (1 ∷ []) $ fsplit ! $ fsplit ! $ move ! (1 ∷ []) $
       feqL ! (λ k₂. move ! (1 ∷ []) $ fsplit ! $ fsplit ! $ move ! (1 ∷ []) $ feqL ! (λ k₃. move ! (1 ∷ []) $ fsplit ! $ fsplit ! $ move ! (1 ∷ []) $

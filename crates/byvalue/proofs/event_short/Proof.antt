@@ -47,8 +47,7 @@ use Rattle.ring.specs.declared.Entry.{Entry}
 use Rattle.ring.specs.Ring.{blank}
 use Rattle.roster.specs.declared.Roster.{Roster}
 use Rattle.rules.specs.declared.Outcome.{Outcome}
-use Rattle.rules.specs.Rules.{done as done-with, eventOf}
-use Rattle.answers.specs.Reacting.{stateWith}
+use Rattle.rules.specs.Rules.{worldWith, EventPromise}
 use Rattle.byvalue.proofs.Refused.{short-stays}
 use Rattle.ring.proofs.Entry as T
 use Rattle.ring.proofs.Entry.Laws as T′
@@ -116,8 +115,7 @@ module _ {M : Type 1} (𝓤 : URA M) (H : Heap 𝓤) (A : Atoms 𝓤) (W : Given
   Post = walkOf 𝓤 H A event-short.ended stayed (event-short.clauses 𝓤 H A mem run) .post bound
 
   -- the end: the tokens and what is left of the parameters, and what the contract says of the result
-  exits : (o : Outcome) → Is Oc.the-row o (LL.vals Oc.the-type OcL.the-laws o) → (table′ rows′ flags′ : List ℕ) → done-with o table′ rows′ flags′
-      (replicate 63 blank) ≡ eventOf bytes (stateWith table rows flags roster) (replicate 63 blank) → length table′ ≡ length table
+  exits : (o : Outcome) → Is Oc.the-row o (LL.vals Oc.the-type OcL.the-laws o) → (table′ rows′ flags′ : List ℕ) → EventPromise bytes (worldWith table rows flags (replicate 63 blank) roster) (worldWith table′ rows′ flags′ (replicate 63 blank) (o .roster)) (o .reply) → length table′ ≡ length table
       → length rows′ ≡ length rows → length flags′ ≡ length flags
       → ent 𝓤 (⋆ 𝓤 H A (‵ (flft κ₀ q₀) ∷ ‵ (flft κ₁ q₁) ∷ ‵ (flft κ₂ q₂) ∷ ‵ (flft κ₃ q₃) ∷ ‵ (Shr (named 0) κ₀ u8 b₀ o₀ γ₀ bytes) ∷
       ‵ (finally u8 γ₁ table′) ∷ ‵ (finally u32 γ₂ rows′) ∷ ‵ (finally u8 γ₃ flags′) ∷ [])) (Post (LL.val Oc.the-type OcL.the-laws o))
@@ -237,10 +235,9 @@ module _ {M : Type 1} (𝓤 : URA M) (H : Heap 𝓤) (A : Atoms 𝓤) (W : Given
       split ! $ move ! (1 ∷ []) $
       use1 W (some (λ (zs₂ : Unit {0} × (List ℕ × (List ℕ × (List ℕ × (List Entry × (Unit {0} × Unit {0})))))). ‵
       (lasts event-at.ended (κ₀, (κ₁, (κ₂, (κ₃, ((ν ∷ []), tt))))) (args-event l₆ r ν δ) zs₂) ⊛ raw
-      (fact 𝓤 (done-with o (zs₂ .1 .0) (zs₂ .1 .1 .0) (zs₂ .1 .1 .1 .0) (zs₂ .1 .1 .1 .1 .0) ≡ eventOf bytes
-      (stateWith table rows flags roster) r)))) (id⊢ 𝓤 _) $ pick ! (λ zs₂.
+      (fact 𝓤 (EventPromise bytes (worldWith table rows flags r roster) (worldWith (zs₂ .1 .0) (zs₂ .1 .1 .0) (zs₂ .1 .1 .1 .0) (zs₂ .1 .1 .1 .1 .0) (o .roster)) (o .reply))))) (id⊢ 𝓤 _) $ pick ! (λ zs₂.
       split ! $ move ! (1 ∷ []) $
-      heard ! (done-with o (zs₂ .1 .0) (zs₂ .1 .1 .0) (zs₂ .1 .1 .1 .0) (zs₂ .1 .1 .1 .1 .0) ≡ eventOf bytes (stateWith table rows flags roster) r)
+      heard ! (EventPromise bytes (worldWith table rows flags r roster) (worldWith (zs₂ .1 .0) (zs₂ .1 .1 .0) (zs₂ .1 .1 .1 .0) (zs₂ .1 .1 .1 .1 .0) (o .roster)) (o .reply))
       (λ e₂.
       fsplit ! $ drop ! $ fsplit ! $ fsplit ! $ move ! (1 ∷ []) $ feqL ! (λ k₁. move ! (1 ∷ []) $ fsplit ! $ fsplit ! $ move ! (1 ∷ []) $
       feqL ! (λ k₂. move ! (1 ∷ []) $ fsplit ! $ fsplit ! $ move ! (1 ∷ []) $ feqL ! (λ k₃. move ! (1 ∷ []) $ fsplit ! $ fsplit ! $ move ! (1 ∷ []) $
@@ -256,8 +253,7 @@ module _ {M : Type 1} (𝓤 : URA M) (H : Heap 𝓤) (A : Atoms 𝓤) (W : Given
       free-all W ! _ (has _ ∷ has _ ∷ has _ ∷ has _ ∷ has _ ∷ has _ ∷ free ∷ has _ ∷ has _ ∷ has _ ∷ has _ ∷ has _ ∷ has _ ∷ has _ ∷ has _ ∷
       has _ ∷ []) tt $
       by ! (exits o (outcome-is o v₂ is₂) (zs₂ .1 .0) (zs₂ .1 .1 .0) (zs₂ .1 .1 .1 .0)
-      (subst (λ (es : List Entry). done-with o (zs₂ .1 .0) (zs₂ .1 .1 .0) (zs₂ .1 .1 .1 .0) es ≡ eventOf bytes
-      (stateWith table rows flags roster) es) e₁ (short-stays bytes (stateWith table rows flags roster) r (zs₂ .1 .1 .1 .1 .0) o (zs₂ .1 .0)
+      (subst (λ (es : List Entry). EventPromise bytes (worldWith table rows flags es roster) (worldWith (zs₂ .1 .0) (zs₂ .1 .1 .0) (zs₂ .1 .1 .1 .0) es (o .roster)) (o .reply)) e₁ (short-stays bytes (worldWith table rows flags r roster) (zs₂ .1 .1 .1 .1 .0) o (zs₂ .1 .0)
       (zs₂ .1 .1 .0) (zs₂ .1 .1 .1 .0) (count r v is) e₂)) k₁ k₂ k₃))))))))))))))))))))))))))))))))
 
 -- from the walk to the contract

@@ -45,8 +45,7 @@ use denote.Array.{Array, array-vals, array-tells, array-typed, array-makes}
 use Rattle.ring.specs.declared.Entry.{Entry}
 use Rattle.roster.specs.declared.Roster.{Roster}
 use Rattle.rules.specs.declared.Outcome.{Outcome}
-use Rattle.rules.specs.Rules.{done as done-with, startDone}
-use Rattle.answers.specs.Reacting.{stateWith}
+use Rattle.rules.specs.Rules.{worldWith, StartPromise}
 use Rattle.ring.proofs.Entry as T
 use Rattle.ring.proofs.Entry.Laws as T′
 use Rattle.ring.proofs.Entries.{E, vals, tells, makes}
@@ -100,8 +99,7 @@ module _ {M : Type 1} (𝓤 : URA M) (H : Heap 𝓤) (A : Atoms 𝓤) (W : Given
   Post = walkOf 𝓤 H A start.ended stayed (start.clauses 𝓤 H A mem run) .post bound
 
   -- the end: the tokens and what is left of the parameters, and what the contract says of the result
-  exits : (o : Outcome) → Is Oc.the-row o (LL.vals Oc.the-type OcL.the-laws o) → (table′ : List ℕ) → done-with o table′ rows flags ring ≡ startDone
-      (stateWith table rows flags roster) ring → length table′ ≡ length table
+  exits : (o : Outcome) → Is Oc.the-row o (LL.vals Oc.the-type OcL.the-laws o) → (table′ : List ℕ) → StartPromise (worldWith table rows flags ring roster) (worldWith table′ rows flags ring (o .roster)) (o .reply) → length table′ ≡ length table
       → ent 𝓤 (⋆ 𝓤 H A (‵ (flft κ₀ q₀) ∷ ‵ (flft κ₁ q₁) ∷ ‵ (flft κ₂ q₂) ∷ ‵ (finally u8 γ₀ table′) ∷ ‵ (Shr (named 1) κ₁ u32 b₁ o₁ γ₁ rows) ∷
       ‵ (Shr (named 2) κ₂ u8 b₂ o₂ γ₂ flags) ∷ [])) (Post (LL.val Oc.the-type OcL.the-laws o))
   exits o g table′ e k =
@@ -191,8 +189,8 @@ module _ {M : Type 1} (𝓤 : URA M) (H : Heap 𝓤) (A : Atoms 𝓤) (W : Given
       split ! $ move ! (1 ∷ []) $
       use1 W (some (λ (zs₂ : List ℕ × (Unit {0} × (Unit {0} × (Unit {0} × (Unit {0} × Unit {0}))))). ‵
       (lasts start-at.ended (κ₀, (κ₁, (κ₂, ((ν ∷ []), tt)))) (args-start l₆ ν δ) zs₂) ⊛ raw
-      (fact 𝓤 (done-with o (zs₂ .0) rows flags ring ≡ startDone (stateWith table rows flags roster) ring)))) (id⊢ 𝓤 _) $ pick ! (λ zs₂.
-      split ! $ move ! (1 ∷ []) $ heard ! (done-with o (zs₂ .0) rows flags ring ≡ startDone (stateWith table rows flags roster) ring) (λ e₂.
+      (fact 𝓤 (StartPromise (worldWith table rows flags ring roster) (worldWith (zs₂ .0) rows flags ring (o .roster)) (o .reply))))) (id⊢ 𝓤 _) $ pick ! (λ zs₂.
+      split ! $ move ! (1 ∷ []) $ heard ! (StartPromise (worldWith table rows flags ring roster) (worldWith (zs₂ .0) rows flags ring (o .roster)) (o .reply)) (λ e₂.
       fsplit ! $ fsplit ! $ move ! (1 ∷ []) $ feqL ! (λ k. move ! (1 ∷ []) $ drop ! $ move ! (1 ∷ []) $ split ! $ split ! $ move ! (1 ∷ []) $
       split ! $ move ! (1 ∷ []) $ split ! $ move ! (1 ∷ []) $ split ! $ move ! (1 ∷ []) $ drop ! $ move ! (4 ∷ []) $
       peeks ! Oc.the-row (Is Oc.the-row) (shows 𝓤 H A Oc.the-row) o (v₂ ∷ []) (λ is₂.

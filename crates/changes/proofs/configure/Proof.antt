@@ -3,8 +3,7 @@ use mathlib.Core.Bool.{false}
 use mathlib.Core.Path.{ap, _∙_}
 use Rattle.rows.specs.Rows.{Rows}
 use Rattle.rules.specs.Answer.{accepts}
-use Rattle.rules.specs.Rules.{withSettings}
-use Rattle.answers.specs.Reacting.{stateWith}
+use Rattle.rules.specs.Rules.{stateWith, withSettings}
 use Rattle.changes.proofs.ByKind.{configure-10-held, configure-10-used, configure-done}
 use borrow.Author.Needs.{needs}
 use Rattle.changes.proofs.configure.Statement.{statement}
@@ -53,7 +52,7 @@ returns-3 c =
     let u = k .before .before .before .before in
     let p = u .before .before .before .before .before .before .args in
     c .taken .ensures (p .table .now) _ _
-    ∙ ap (λ (x : Rows). record { told = accepts 0 0 0; state = stateWith (p .table .now) (x .servers) (x .flags) (withSettings (p .settings) (p .r)); redraw = false }) (k .clear .ensures)
+    ∙ ap (λ (x : Rows). record { answer = accepts 0 0 0; state = stateWith (p .table .now) (x .servers) (x .flags) (withSettings (p .settings) (p .r)); redraw = false }) (k .clear .ensures)
     ∙ configure-done key (p .table .now) (p .rows .now) (p .flags .now) found pick (p .r) (p .settings) (u .before .if1 .left) (rw (u .used .ensures) at (k .before .before .before .if2 .left))
 
 pub configure-spec : {M : Type 1} → statement M

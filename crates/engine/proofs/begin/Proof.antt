@@ -1,7 +1,7 @@
 -- `engine::begin` meets its contract.
 use mathlib.Core.Path.{sym, _∙_}
 use borrow.Author.Tests.{not-true, not-false}
-use Rattle.engine.specs.Looking.{beginOf}
+use Rattle.rules.specs.Rules.{startOf}
 use borrow.Author.Needs.{needs}
 use Rattle.engine.proofs.begin.Statement.{statement}
 use Rattle.engine.proofs.begin.Tie as tie
@@ -10,8 +10,8 @@ sizes-right-requires : tie.Need-sizes-right-requires
 sizes-right-requires c κs = search needs
 
 returns : tie.Need-returns
-unfolding beginOf
-returns c = rw (sym (c .before .sizes-right .ensures) ∙ not-true _ (c .if1 .taken))
+unfolding startOf
+returns c ns fs es p q r = rw (p, q, r, sym (c .before .sizes-right .ensures) ∙ not-true _ (c .if1 .taken))
 
 start-requires : tie.Need-start-requires
 start-requires c κs = search needs
@@ -23,10 +23,10 @@ same-length : tie.Need-same-length
 same-length c = search needs
 
 returns-2 : tie.Need-returns-2
-unfolding beginOf
-returns-2 c =
+unfolding startOf
+returns-2 c ns fs es p q r =
     let s = c .before .before .before in
-    rw (sym (s .before .before .before .sizes-right .ensures) ∙ not-false _ (s .before .before .if1 .left), s .start .ensures, c .empty .ensures)
+    rw (p, q, r, sym (s .before .before .before .sizes-right .ensures) ∙ not-false _ (s .before .before .if1 .left), s .start .ensures, c .empty .ensures)
 
 pub begin-spec : {M : Type 1} → statement M
 begin-spec =

@@ -1,7 +1,7 @@
 -- `engine::look` meets its contract.
 use mathlib.Core.Bool.{Bool}
 use mathlib.Core.Path.{_∙_, ap}
-use Rattle.event.specs.Event.{Asked, eventIn}
+use Rattle.event.specs.Event.{Request, eventIn}
 use Rattle.engine.specs.Looking.{lookOf}
 use borrow.Author.Needs.{needs}
 use Rattle.engine.proofs.look.Statement.{statement}
@@ -21,7 +21,7 @@ returns c =
     let z = c .before .before in
     let p = z .before .before .before .args in
     c .seek .ensures
-    ∙ ap (λ (e : Asked). lookOf (z .sizes-right .result) e (p .table .now) (p .roster)) (c .before .read .ensures)
+    ∙ ap (λ (e : Request). lookOf (z .sizes-right .result) e (p .table .now) (p .roster)) (c .before .read .ensures)
     ∙ ap (λ (b : Bool). lookOf b (eventIn (p .bytes .now)) (p .table .now) (p .roster)) (z .sizes-right .ensures)
 
 pub look-spec : {M : Type 1} → statement M

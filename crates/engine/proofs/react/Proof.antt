@@ -1,12 +1,11 @@
 -- `engine::react` meets its contract: refusals 9 and 11 are settled first, and each kind does what the rules say.
 use mathlib.Core.Path.{sym, ap, _∙_}
 use Rattle.event.specs.declared.Ask.{Ask}
-use Rattle.event.specs.Event.{toldAs}
-use Rattle.table.specs.Table.{told as told-found}
+use Rattle.event.specs.Event.{requestBy}
+use Rattle.table.specs.Table.{findingOf}
 use Rattle.ranking.specs.declared.Pick.{Pick}
 use Rattle.roster.specs.Roster.{sound as sound-of}
-use Rattle.rules.specs.Rules.{State, pickBy, judged}
-use Rattle.answers.specs.Reacting.{stateWith}
+use Rattle.rules.specs.Rules.{stateWith, State, pickBy, judged}
 use Rattle.changes.proofs.ByKind.{refused-as}
 use Rattle.engine.specs.Looking.{asksPacket}
 use Rattle.engine.proofs.Admitting.{admitted-other, admitted-packet}
@@ -90,7 +89,7 @@ returns c =
     let pk : Pick = pickBy (p .seen .f) (p .spot) st in
     c .stays .ensures _ (p .rows .now) (p .flags .now)
     ∙ k .packet .ensures
-    ∙ admitted-packet (p .seen .event .ask) (p .seen .sized) (sound-of (p .roster)) (p .seen .event .key) (told-found (p .seen .found)) pk st (sym (g .enum-told .given .1) ∙ m .admit .ensures)
+    ∙ admitted-packet (p .seen .event .ask) (p .seen .sized) (sound-of (p .roster)) (p .seen .event .key) (findingOf (p .seen .found)) pk st (sym (g .enum-told .given .1) ∙ m .admit .ensures)
 
 same-length-4 : tie.Need-same-length-4
 same-length-4 c = search needs
@@ -105,8 +104,8 @@ returns-2 c =
     let pk : Pick = pickBy (p .seen .f) (p .spot) st in
     c .stays2 .ensures _ (p .rows .now) (p .flags .now)
     ∙ k .end .ensures (p .seen .event .key) pk (p .rows .now) (p .flags .now) (p .roster)
-    ∙ ap (λ (a : Ask). judged (toldAs a (p .seen .event .key)) (told-found (p .seen .found)) pk st) (sym (g .enum-told2 .given .1))
-    ∙ admitted-other (p .seen .event .ask) (p .seen .sized) (sound-of (p .roster)) (p .seen .event .key) (told-found (p .seen .found)) pk st (m .admit .result) (m .admit .ensures) (ap asksPacket (g .enum-told2 .given .1))
+    ∙ ap (λ (a : Ask). judged (requestBy a (p .seen .event .key)) (findingOf (p .seen .found)) pk st) (sym (g .enum-told2 .given .1))
+    ∙ admitted-other (p .seen .event .ask) (p .seen .sized) (sound-of (p .roster)) (p .seen .event .key) (findingOf (p .seen .found)) pk st (m .admit .result) (m .admit .ensures) (ap asksPacket (g .enum-told2 .given .1))
 
 same-length-5 : tie.Need-same-length-5
 same-length-5 c = search needs
@@ -122,9 +121,9 @@ returns-3 c =
     let p = m .before .before .before .before .before .args in
     let st : State = stateWith (p .table .now) (p .rows .now) (p .flags .now) (p .roster) in
     let pk : Pick = pickBy (p .seen .f) (p .spot) st in
-    k .add-working .ensures (p .seen .event .key) (p .table .now) (told-found (p .seen .found)) pk
-    ∙ ap (λ (a : Ask). judged (toldAs a (p .seen .event .key)) (told-found (p .seen .found)) pk st) (sym (g .ask .given .1))
-    ∙ admitted-other (p .seen .event .ask) (p .seen .sized) (sound-of (p .roster)) (p .seen .event .key) (told-found (p .seen .found)) pk st (m .admit .result) (m .admit .ensures) (ap asksPacket (g .ask .given .1))
+    k .add-working .ensures (p .seen .event .key) (p .table .now) (findingOf (p .seen .found)) pk
+    ∙ ap (λ (a : Ask). judged (requestBy a (p .seen .event .key)) (findingOf (p .seen .found)) pk st) (sym (g .ask .given .1))
+    ∙ admitted-other (p .seen .event .ask) (p .seen .sized) (sound-of (p .roster)) (p .seen .event .key) (findingOf (p .seen .found)) pk st (m .admit .result) (m .admit .ensures) (ap asksPacket (g .ask .given .1))
 
 same-length-7 : tie.Need-same-length-7
 same-length-7 c = search needs
@@ -143,9 +142,9 @@ returns-4 c =
     let p = m .before .before .before .before .before .args in
     let st : State = stateWith (p .table .now) (p .rows .now) (p .flags .now) (p .roster) in
     let pk : Pick = pickBy (p .seen .f) (p .spot) st in
-    k .remove-working .ensures (p .seen .event .key) (told-found (p .seen .found)) pk
-    ∙ ap (λ (a : Ask). judged (toldAs a (p .seen .event .key)) (told-found (p .seen .found)) pk st) (sym (g .ask2 .given .1))
-    ∙ admitted-other (p .seen .event .ask) (p .seen .sized) (sound-of (p .roster)) (p .seen .event .key) (told-found (p .seen .found)) pk st (m .admit .result) (m .admit .ensures) (ap asksPacket (g .ask2 .given .1))
+    k .remove-working .ensures (p .seen .event .key) (findingOf (p .seen .found)) pk
+    ∙ ap (λ (a : Ask). judged (requestBy a (p .seen .event .key)) (findingOf (p .seen .found)) pk st) (sym (g .ask2 .given .1))
+    ∙ admitted-other (p .seen .event .ask) (p .seen .sized) (sound-of (p .roster)) (p .seen .event .key) (findingOf (p .seen .found)) pk st (m .admit .result) (m .admit .ensures) (ap asksPacket (g .ask2 .given .1))
 
 same-length-10 : tie.Need-same-length-10
 same-length-10 c = search needs
@@ -161,9 +160,9 @@ returns-5 c =
     let p = m .before .before .before .before .before .args in
     let st : State = stateWith (p .table .now) (p .rows .now) (p .flags .now) (p .roster) in
     let pk : Pick = pickBy (p .seen .f) (p .spot) st in
-    k .add-horizon .ensures (p .seen .event .key) (p .table .now) (told-found (p .seen .found)) pk
-    ∙ ap (λ (a : Ask). judged (toldAs a (p .seen .event .key)) (told-found (p .seen .found)) pk st) (sym (g .ask3 .given .1))
-    ∙ admitted-other (p .seen .event .ask) (p .seen .sized) (sound-of (p .roster)) (p .seen .event .key) (told-found (p .seen .found)) pk st (m .admit .result) (m .admit .ensures) (ap asksPacket (g .ask3 .given .1))
+    k .add-horizon .ensures (p .seen .event .key) (p .table .now) (findingOf (p .seen .found)) pk
+    ∙ ap (λ (a : Ask). judged (requestBy a (p .seen .event .key)) (findingOf (p .seen .found)) pk st) (sym (g .ask3 .given .1))
+    ∙ admitted-other (p .seen .event .ask) (p .seen .sized) (sound-of (p .roster)) (p .seen .event .key) (findingOf (p .seen .found)) pk st (m .admit .result) (m .admit .ensures) (ap asksPacket (g .ask3 .given .1))
 
 same-length-12 : tie.Need-same-length-12
 same-length-12 c = search needs
@@ -179,9 +178,9 @@ returns-6 c =
     let p = m .before .before .before .before .before .args in
     let st : State = stateWith (p .table .now) (p .rows .now) (p .flags .now) (p .roster) in
     let pk : Pick = pickBy (p .seen .f) (p .spot) st in
-    k .remove-horizon .ensures (p .seen .event .key) (p .table .now) (told-found (p .seen .found)) pk
-    ∙ ap (λ (a : Ask). judged (toldAs a (p .seen .event .key)) (told-found (p .seen .found)) pk st) (sym (g .ask4 .given .1))
-    ∙ admitted-other (p .seen .event .ask) (p .seen .sized) (sound-of (p .roster)) (p .seen .event .key) (told-found (p .seen .found)) pk st (m .admit .result) (m .admit .ensures) (ap asksPacket (g .ask4 .given .1))
+    k .remove-horizon .ensures (p .seen .event .key) (p .table .now) (findingOf (p .seen .found)) pk
+    ∙ ap (λ (a : Ask). judged (requestBy a (p .seen .event .key)) (findingOf (p .seen .found)) pk st) (sym (g .ask4 .given .1))
+    ∙ admitted-other (p .seen .event .ask) (p .seen .sized) (sound-of (p .roster)) (p .seen .event .key) (findingOf (p .seen .found)) pk st (m .admit .result) (m .admit .ensures) (ap asksPacket (g .ask4 .given .1))
 
 same-length-14 : tie.Need-same-length-14
 same-length-14 c = search needs
@@ -200,9 +199,9 @@ returns-7 c =
     let p = m .before .before .before .before .before .args in
     let st : State = stateWith (p .table .now) (p .rows .now) (p .flags .now) (p .roster) in
     let pk : Pick = pickBy (p .seen .f) (p .spot) st in
-    k .configure .ensures (p .seen .event .key) (told-found (p .seen .found)) pk
-    ∙ ap (λ (a : Ask). judged (toldAs a (p .seen .event .key)) (told-found (p .seen .found)) pk st) (sym (g .ask5 .given .1))
-    ∙ admitted-other (p .seen .event .ask) (p .seen .sized) (sound-of (p .roster)) (p .seen .event .key) (told-found (p .seen .found)) pk st (m .admit .result) (m .admit .ensures) (ap asksPacket (g .ask5 .given .1))
+    k .configure .ensures (p .seen .event .key) (findingOf (p .seen .found)) pk
+    ∙ ap (λ (a : Ask). judged (requestBy a (p .seen .event .key)) (findingOf (p .seen .found)) pk st) (sym (g .ask5 .given .1))
+    ∙ admitted-other (p .seen .event .ask) (p .seen .sized) (sound-of (p .roster)) (p .seen .event .key) (findingOf (p .seen .found)) pk st (m .admit .result) (m .admit .ensures) (ap asksPacket (g .ask5 .given .1))
 
 returns-8 : tie.Need-returns-8
 returns-8 c =
@@ -212,9 +211,9 @@ returns-8 c =
     let st : State = stateWith (p .table .now) (p .rows .now) (p .flags .now) (p .roster) in
     let pk : Pick = pickBy (p .seen .f) (p .spot) st in
     c .refused .ensures (p .table .now) (p .rows .now) (p .flags .now)
-    ∙ refused-as (p .seen .event .key) (p .table .now) (p .rows .now) (p .flags .now) (told-found (p .seen .found)) pk (p .roster) (g .ask6 .given .0 .0)
-    ∙ ap (λ (a : Ask). judged (toldAs a (p .seen .event .key)) (told-found (p .seen .found)) pk st) (sym (g .ask6 .given .1))
-    ∙ admitted-other (p .seen .event .ask) (p .seen .sized) (sound-of (p .roster)) (p .seen .event .key) (told-found (p .seen .found)) pk st (m .admit .result) (m .admit .ensures) (ap asksPacket (g .ask6 .given .1))
+    ∙ refused-as (p .seen .event .key) (p .table .now) (p .rows .now) (p .flags .now) (findingOf (p .seen .found)) pk (p .roster) (g .ask6 .given .0 .0)
+    ∙ ap (λ (a : Ask). judged (requestBy a (p .seen .event .key)) (findingOf (p .seen .found)) pk st) (sym (g .ask6 .given .1))
+    ∙ admitted-other (p .seen .event .ask) (p .seen .sized) (sound-of (p .roster)) (p .seen .event .key) (findingOf (p .seen .found)) pk st (m .admit .result) (m .admit .ensures) (ap asksPacket (g .ask6 .given .1))
 
 pub react-spec : {M : Type 1} → statement M
 react-spec =

@@ -7,8 +7,7 @@ use Rattle.ranking.specs.Ranking.{picked}
 use Rattle.ranking.specs.Methods.{hrw}
 use Rattle.roster.specs.Roster.{workingSet, horizon}
 use Rattle.event.specs.Event.{asksKey}
-use Rattle.rules.specs.Rules.{judged, pickBy, packet}
-use Rattle.answers.specs.Reacting.{stateWith}
+use Rattle.rules.specs.Rules.{stateWith, judged, pickBy, packet}
 use Rattle.packets.proofs.OfPackets.{led-nowhere, led-on, chosen-none, chosen-on, pick-read, pick-hrw, best-of}
 use borrow.Author.Needs.{needs}
 use Rattle.packets.proofs.lead.Statement.{statement}

@@ -54,14 +54,13 @@ use Rattle.roster.proofs.Roster.Laws as RoL
 use Rattle.session.proofs.blocks.Place as Pl
 use Rattle.session.proofs.blocks.Place.Laws as PlL
 use Rattle.rules.specs.declared.Outcome.{Outcome}
-use Rattle.answers.specs.Reacting.{stateWith}
 use Rattle.rules.proofs.Outcome as Oc
 use Rattle.rules.proofs.Outcome.Laws as OcL
 use mir.Table.{spell}
 use denote.Enum.Laws as NL
 use lib.ListN.{take, drop as drop-list}
 use borrow.Rule.Slice.PartAt.{part-count}
-use Rattle.rules.specs.Rules.{done as done-with, eventOf}
+use Rattle.rules.specs.Rules.{worldWith, EventPromise}
 use Rattle.rules.proofs.Reply as Rp
 use Rattle.rules.proofs.Reply.Laws as RpL
 use Rattle.session.proofs.Parts.{part-shr}
@@ -277,10 +276,10 @@ module _ {M : Type 1} (𝓤 : URA M) (H : Heap 𝓤) (A : Atoms 𝓤) (W : Given
         use1 W (later (some (λ (o : Outcome). ((‵ (flft (ν₀ ∷ []) fullShare) ⊛ ‵ (flft (ν₁ ∷ []) fullShare) ⊛ ‵ (flft (ν₂ ∷ []) fullShare) ⊛ ‵ (flft (ν₃ ∷ []) fullShare) ⊛ ‵ (flft (ν₄ ∷ []) fullShare) ⊛ ‵ ftrue) ⊛ ‵ (Oc.the-row .own o (v₂ ∷ []))) ⊛ raw (ensured 𝓤 H A event.ended (event.clauses 𝓤 H A mem run) ((ν₀ ∷ []), ((ν₁ ∷ []), ((ν₂ ∷ []), ((ν₃ ∷ []), ((ν₄ ∷ []), tt))))) (args-event (s .p .at) (s .p .to) (s .r) (s .r-is) (s .b) (s .t) (s .w) (s .f) (s .z) ν₀ γp ν₁ δ₁ ν₂ δ₂ ν₃ δ₃ ν₄ δ₄) tt o)))) (id⊢ 𝓤 _) $ await ! tt $ pick ! (λ o.
         split ! $
         move ! (1 ∷ []) $
-        use1 W (some (λ (zs₂ : Unit {0} × (List ℕ × (List ℕ × (List ℕ × (List Entry × (Unit {0} × Unit {0})))))). ‵ (lasts event.ended ((ν₀ ∷ []), ((ν₁ ∷ []), ((ν₂ ∷ []), ((ν₃ ∷ []), ((ν₄ ∷ []), tt))))) (args-event (s .p .at) (s .p .to) (s .r) (s .r-is) (s .b) (s .t) (s .w) (s .f) (s .z) ν₀ γp ν₁ δ₁ ν₂ δ₂ ν₃ δ₃ ν₄ δ₄) zs₂) ⊛ raw (fact 𝓤 (done-with o (zs₂ .1 .0) (zs₂ .1 .1 .0) (zs₂ .1 .1 .1 .0) (zs₂ .1 .1 .1 .1 .0) ≡ eventOf (part (s .p .at) (s .p .to) (s .b)) (stateWith (s .t) (s .w) (s .f) (s .r)) (s .z))))) (id⊢ 𝓤 _) $ pick ! (λ zs₂.
+        use1 W (some (λ (zs₂ : Unit {0} × (List ℕ × (List ℕ × (List ℕ × (List Entry × (Unit {0} × Unit {0})))))). ‵ (lasts event.ended ((ν₀ ∷ []), ((ν₁ ∷ []), ((ν₂ ∷ []), ((ν₃ ∷ []), ((ν₄ ∷ []), tt))))) (args-event (s .p .at) (s .p .to) (s .r) (s .r-is) (s .b) (s .t) (s .w) (s .f) (s .z) ν₀ γp ν₁ δ₁ ν₂ δ₂ ν₃ δ₃ ν₄ δ₄) zs₂) ⊛ raw (fact 𝓤 (EventPromise (part (s .p .at) (s .p .to) (s .b)) (worldWith (s .t) (s .w) (s .f) (s .z) (s .r)) (worldWith (zs₂ .1 .0) (zs₂ .1 .1 .0) (zs₂ .1 .1 .1 .0) (zs₂ .1 .1 .1 .1 .0) (o .roster)) (o .reply))))) (id⊢ 𝓤 _) $ pick ! (λ zs₂.
         split ! $
         move ! (1 ∷ []) $
-        heard ! (done-with o (zs₂ .1 .0) (zs₂ .1 .1 .0) (zs₂ .1 .1 .1 .0) (zs₂ .1 .1 .1 .1 .0) ≡ eventOf (part (s .p .at) (s .p .to) (s .b)) (stateWith (s .t) (s .w) (s .f) (s .r)) (s .z)) (λ e₂.
+        heard ! (EventPromise (part (s .p .at) (s .p .to) (s .b)) (worldWith (s .t) (s .w) (s .f) (s .z) (s .r)) (worldWith (zs₂ .1 .0) (zs₂ .1 .1 .0) (zs₂ .1 .1 .1 .0) (zs₂ .1 .1 .1 .1 .0) (o .roster)) (o .reply)) (λ e₂.
         fsplit ! $
         drop ! $
         fsplit ! $
