@@ -20,14 +20,14 @@ use Rattle.table.specs.Table.{usedTag, firstRecords, recordsOf, usedAmong, used
 use Rattle.rows.specs.Rows.{upTo, written, filled, cleared, rowRead}
 use Rattle.ring.specs.Ring.{blank}
 use Rattle.rules.specs.Answer.{accepts}
-use Rattle.rules.specs.Rules.{World, sizesRight, admitted, barred, packet, end, refilled, effect, judged, pickBy, eventOf, startOf}
+use Rattle.rules.specs.Rules.{World, sizesRight, lentBar, admitted, barred, packet, end, refilled, effect, judged, pickBy, eventOf, startOf}
 use Rattle.histories.specs.Histories.{after, rankingFor}
 use Rattle.demands.specs.Demands.{ours, Provisos}
 use Rattle.demands.proofs.Steady.{steady}
 
 -- all that a history under one row computes by
 unfoldable pub computed : Unit {0}
-unfolding after startOf eventOf admitted judged barred effect packet end sizesRight refilled pickBy eventIn byKind asksServer asksSettings allBytes wellFormed valid allZero same sound rising allStated inState stateIn restated before putIn addedHorizon usedTag firstRecords recordsOf usedAmong usedPart findAmong find serverAt bytesOf writtenAfter packed without removed notNaming removedServer upTo written filled cleared rowRead weight F stirAll stir
+unfolding after startOf eventOf lentBar admitted judged barred effect packet end sizesRight refilled pickBy eventIn byKind asksServer asksSettings allBytes wellFormed valid allZero same sound rising allStated inState stateIn restated before putIn addedHorizon usedTag firstRecords recordsOf usedAmong usedPart findAmong find serverAt bytesOf writtenAfter packed without removed notNaming removedServer upTo written filled cleared rowRead weight F stirAll stir
 computed = tt
 
 -- lent buffers of the right sizes, all zero, with room for n records
