@@ -3,10 +3,10 @@
 use Prim.Native.Nat.{ℕ, _≤_}
 use mathlib.Core.Bool.{true, false}
 use mathlib.Core.List.{List, [], _∷_}
-use mathlib.Core.Logic.{_≢_}
+use mathlib.Core.Logic.{_≢_, _⊎_, inr}
 use mathlib.Core.Path.{_≡_, refl, ap, _∙_}
 use native.Mathlib.Omega.{arith}
-use lib.ListN.{replicate}
+use lib.ListN.{length, length-append}
 use Rattle.sets.specs.Sets.{inState}
 use Rattle.sets.proofs.Cases.{both, clash}
 use Rattle.spans.specs.Spans.{allZero}
@@ -14,13 +14,12 @@ use Rattle.roster.specs.declared.Roster.{Roster}
 use Rattle.roster.specs.Roster.{workingSet, emptyRoster, stateIn, addedHorizon}
 use Rattle.event.specs.Event.{allBytes, eventIn, byKind, asksServer, asksKey}
 use Rattle.event.proofs.Reading.{packet-reads, end-reads}
-use Rattle.table.specs.Table.{Finding, find}
+use Rattle.table.specs.Table.{Finding, find, used}
 use Rattle.ringplan.specs.Plan.{some}
 use Rattle.rules.specs.Answer.{Answer, accepts}
 use Rattle.rules.specs.Rules.{barred, end, effect, judged}
 use Rattle.histories.specs.Histories.{AllBytes}
 use Rattle.demands.specs.Demands.{Engine, otherwise, Demand2}
-use Rattle.demands.proofs.Packets.{unwritten}
 use Rattle.demands.proofs.Same.{unserved-seen}
 use Rattle.demands.proofs.Witness.{stand, keyP, packetP, endP, waiting, joined, clear-find, joined-bytes, waiting-seen, joined-seen, joined-packet, waiting-packet, waiting-written, written-find}
 
@@ -60,20 +59,24 @@ module _ (n : ℕ) (E : Engine) (d : Demand2 n E) where
       let q = all joined packetP keyP (refl, joined-bytes) (packet-reads keyP refl) (rw r) f in
       omega arith
 
-  -- one that routes but writes no record
-  pub not-forgetful : 20 ≤ n → ((h : List (List ℕ)) → AllBytes h → E .table h ≡ replicate n 0) → ⊥
+  -- one that routes but writes no record: any whose used part stays empty, whatever else it scribbles
+  pub not-forgetful : 20 ≤ n → ((h : List (List ℕ)) → AllBytes h → used (E .table h) ≡ 0) → ⊥
   unfolding allBytes
   not-forgetful room all =
       let w = waiting-written n E d room in
-      unwritten keyP _ (replicate n 0) (rw (all waiting (joined-bytes .1), all (packetP ∷ waiting) (refl, joined-bytes .1)) at w)
+      let gained = ap (length {A = List ℕ}) (w .gains) in
+      let none = all (packetP ∷ waiting) (refl, joined-bytes .1) in
+      omega (arith, simp length-append at gained)
 
-  -- one that updates no roster
-  pub not-idle : ((h : List (List ℕ)) → AllBytes h → E .roster h ≡ emptyRoster) → ⊥
+  -- one that updates no roster: any whose roster no add ever changes
+  pub not-idle : ((h : List (List ℕ)) (bytes : List ℕ) → AllBytes (bytes ∷ h) → (eventIn bytes .kind ≡ 3) ⊎ (eventIn bytes .kind ≡ 5)
+      → E .roster (bytes ∷ h) ≡ E .roster h) → ⊥
   unfolding allBytes eventIn byKind asksServer allZero
   not-idle all =
       let e = unserved-seen n E d [] (stand 1) (refl, tt) refl .roster in
       let one : E .roster (stand 1 ∷ []) .held ≡ 1 = ap (λ (r : Roster). r .held) e ∙ rw (d .startsEmpty) (first-held (E .table [])) in
-      let none : E .roster (stand 1 ∷ []) .held ≡ 0 = ap (λ (r : Roster). r .held) (all (stand 1 ∷ []) (refl, tt)) in
+      let same : E .roster (stand 1 ∷ []) .held ≡ 0 =
+      ap (λ (r : Roster). r .held) (all [] (stand 1) (refl, tt) (inr refl) ∙ d .startsEmpty) in
       omega arith
 
   -- one that invents its read count, at a packet or at an end: what is told is the number of used records read

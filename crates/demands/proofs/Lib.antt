@@ -12,3 +12,4 @@ pub mod Impostors
 pub mod Pretenders
 pub mod Roomless
 pub mod EveryEngine
+pub mod Alike

@@ -3,7 +3,7 @@ use Prim.Native.Nat.{ℕ}
 use mathlib.Core.Bool.{Bool, true, false, _&&_}
 use mathlib.Core.List.{List, [], _∷_}
 use mathlib.Core.Logic.{⊎-elim}
-use mathlib.Core.Path.{_≡_, refl, sym, _∙_}
+use mathlib.Core.Path.{_≡_, refl, sym, ap, _∙_}
 use native.Mathlib.Omega.{arith}
 use lib.Dec.{ltb}
 use borrow.Author.Tests.{ltb-true, ltb-false}
@@ -18,7 +18,7 @@ use Rattle.table.proofs.Records.{used-within}
 use Rattle.table.proofs.Finds.{missing-reads}
 use Rattle.ringplan.specs.Plan.{some}
 use Rattle.rules.specs.Answer.{Answer, accepts}
-use Rattle.rules.specs.Rules.{Change, is, packet}
+use Rattle.rules.specs.Rules.{Change, is, packet, barred, judged}
 use Rattle.histories.specs.Histories.{AllBytes}
 use Rattle.demands.specs.Demands.{Engine, rankingOf, mover, Unsafe, PacketRight, otherwise, Demand2}
 use Rattle.demands.proofs.Packets.{some-member, flagged, unflagged}
@@ -89,6 +89,15 @@ module _ (n : ℕ) (E : Engine) (d : Demand2 n E) (h : List (List ℕ)) (bytes :
   unserved-seen v =
       let o = d .others h bytes b (λ key e works. clash (rw (e, works)) v) in
       record { answer = o .0; table = o .1; roster = o .2 }
+
+-- a packet that an engine which obeys accepts found some server at work
+pub accepted-works : (n : ℕ) (E : Engine) → Demand2 n E → (h : List (List ℕ)) (bytes key : List ℕ) → AllBytes (bytes ∷ h)
+    → eventIn bytes ≡ asksKey 1 key → E .says h bytes .accepted ≡ true → some (workingSet (E .roster h)) ≡ true
+unfolding judged barred
+accepted-works n E d h bytes key b e a =
+    both (some (workingSet (E .roster h))) (λ t. t) (λ t.
+    let o = unserved-seen n E d h bytes b (rw (e, t)) .answer in
+    clash a (ap (λ (x : Answer). x .accepted) o ∙ rw (e, t)))
 
 module _ (n : ℕ) (E G : Engine) (d : Demand2 n E) (g : Demand2 n G) where
   same-next : (h : List (List ℕ)) (bytes : List ℕ) → AllBytes (bytes ∷ h) → E .table h ≡ G .table h → E .roster h ≡ G .roster h

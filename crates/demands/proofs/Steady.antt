@@ -4,24 +4,24 @@ use Prim.Native.Nat.{ℕ}
 use mathlib.Core.Bool.{true, false}
 use mathlib.Core.List.{List, [], _∷_, _++_}
 use mathlib.Core.Logic.{_≢_}
-use mathlib.Core.Path.{_≡_, refl, ap, _∙_}
+use mathlib.Core.Path.{_≡_, refl, ap, subst, _∙_}
 use lib.ListN.{length}
 use Rattle.sets.specs.Sets.{member}
 use Rattle.settings.specs.declared.Settings.{Settings}
 use Rattle.roster.specs.Roster.{stateOf, working, heldServers, workingSet}
 use Rattle.event.specs.Event.{Request, asksKey, eventIn}
 use Rattle.event.proofs.Reading.{reading}
-use Rattle.table.specs.Table.{entries}
+use Rattle.rules.specs.Answer.{Answer}
 use Rattle.rules.specs.Rules.{World, settled, eventOf}
 use Rattle.histories.specs.Histories.{startAccepted, after, answer, AllBytes, Distinct, AllWorking}
 use Rattle.histories.proofs.Along.{event-judged, inner, along}
-use Rattle.demands.specs.Demands.{ours, Throughout, Demand3}
+use Rattle.histories.proofs.Meaning.{distinct-apart, works-each}
+use Rattle.demands.specs.Demands.{ours, mover, Throughout, Demand3}
+use Rattle.demands.proofs.Alike.{bytes-behind}
+use Rattle.demands.proofs.Obeys.{ours-obeys}
+use Rattle.demands.proofs.Same.{accepted-works}
 use Rattle.demands.proofs.SteadyEvents.{changeOf, served-accepted, goes}
 use Rattle.demands.proofs.SteadyKept.{Kept, Fair, kept-first, kept-after, kept-last}
-
-pub bytes-behind : (between h : List (List ℕ)) → AllBytes (between ++ h) → AllBytes h
-bytes-behind [] h b = b
-bytes-behind (bytes ∷ between) h b = bytes-behind between h (b .1)
 
 -- the provisos at the event that a record is, after a history
 abbrev pub FairAt : World → (ℕ → Type 0) → List ℕ → ℕ → List (List ℕ) → List ℕ → Type 0
@@ -90,19 +90,31 @@ module _ (w : World) (s : startAccepted w ≡ true) where
         let (x, y) = kept-last (after w l) (inner w s l (b .1)) key d P m k₃ in
         rw (packet-at l (b .1) later key p₂, answer) (x, y)
 
--- DEMAND 3, its second sentence
-pub steady : (w : World) → startAccepted w ≡ true → Demand3 (ours w)
-steady w s h between earlier later key b p₁ p₂ a v =
-    let m = answer w h earlier .server in
-    let P : ℕ → Type 0 = λ x. member x (heldServers (after w h .state .roster)) ≡ true in
-    steady-within w s key m P h between earlier later b p₁ p₂ a refl (v .roomTold) (λ x q. q)
-    (fair-throughout w key m P (earlier ∷ h) between (v .worked) (v .unended) (v .held))
+-- a packet that is accepted got demand 2's mover
+accepted-mover : (w : World) → startAccepted w ≡ true → (h : List (List ℕ)) (bytes key : List ℕ) → AllBytes (bytes ∷ h)
+    → eventIn bytes ≡ asksKey 1 key → answer w h bytes .accepted ≡ true
+    → answer w h bytes .server ≡ mover key (after w h .state .table) (after w h .state .roster)
+accepted-mover w s h bytes key b e a =
+    let d = ours-obeys w s in
+    let works = accepted-works (length (w .state .table)) (ours w) d h bytes key b e a in
+    ap (λ (x : Answer). x .server) (d .packets h bytes key b e works .gets)
 
--- its first sentence, over any history: no key is recorded twice,
-pub recorded-once : (w : World) → startAccepted w ≡ true → (h : List (List ℕ)) → AllBytes h → Distinct (entries (ours w .table h))
-recorded-once w s h b = along w s h b .distinct
-
--- and every record names a working mover
-pub records-work : (w : World) → startAccepted w ≡ true → (h : List (List ℕ)) → AllBytes h
-    → AllWorking (ours w .roster h) (entries (ours w .table h))
-records-work w s h b = along w s h b .named
+-- DEMAND 3 of our engine
+pub ours-steady : (w : World) → startAccepted w ≡ true → Demand3 (ours w)
+ours-steady w s =
+    record {
+      once = λ h b front middle back r r′ e. distinct-apart front middle back r r′ (subst Distinct e (along w s h b .distinct));
+      named = λ h b front back r e.
+          works-each (after w h .state .roster) front back r (subst (AllWorking (after w h .state .roster)) e (along w s h b .named));
+      steady = λ h between earlier later key b p₁ p₂ a v.
+          let m = answer w h earlier .server in
+          let P : ℕ → Type 0 = λ x. member x (heldServers (after w h .state .roster)) ≡ true in
+          let (x, y) = steady-within w s key m P h between earlier later b p₁ p₂ a refl (v .roomTold) (λ x q. q)
+          (fair-throughout w key m P (earlier ∷ h) between (v .worked) (v .unended) (v .held)) in
+          record {
+            accepted = x;
+            same = y;
+            first = accepted-mover w s h earlier key (bytes-behind between (earlier ∷ h) (b .1)) p₁ a;
+            last = accepted-mover w s (between ++ (earlier ∷ h)) later key b p₂ x;
+          };
+    }

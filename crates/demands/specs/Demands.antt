@@ -1,4 +1,4 @@
--- The user's demands 2 and 3, phrase by phrase. An engine is what can be seen of it; nothing here names a row, a flag or a ring entry.
+-- The user's demands 2 and 3, phrase by phrase (demand 1 stands in Demand1.antt). An engine is what can be seen of it; nothing here names a row, a flag or a ring entry.
 use Prim.Native.Nat.{ℕ, _<_}
 use mathlib.Core.Bool.{Bool, true, false, cond}
 use mathlib.Core.List.{List, [], _∷_, _++_}
@@ -10,10 +10,11 @@ use Rattle.ranking.specs.Ranking.{Ranking, choice, SomeChange}
 use Rattle.roster.specs.declared.Roster.{Roster}
 use Rattle.roster.specs.Roster.{stateOf, working, heldServers, workingSet, horizon, emptyRoster}
 use Rattle.event.specs.Event.{Request, allBytes, asksKey, eventIn}
-use Rattle.table.specs.Table.{find, serverAt, used, room, usedPart, newRecord, appended}
+use Rattle.table.specs.Table.{Rec, entries, find, serverAt, used, room, usedPart, newRecord, appended}
 use Rattle.ringplan.specs.Plan.{some}
-use Rattle.rules.specs.Answer.{Answer, accepts}
-use Rattle.rules.specs.Rules.{World, State, Change, judged}
+use Rattle.rules.specs.declared.Reply.{Reply}
+use Rattle.rules.specs.Answer.{Answer, accepts, answerOf}
+use Rattle.rules.specs.Rules.{World, stateWith, Change, judged, EventPromise, StartPromise}
 use Rattle.histories.specs.Histories.{after, answer, AllBytes, rankingFor}
 
 -- what is seen of an engine after a history of event records, the newest first: its lent table and the roster it returned; and its
@@ -23,13 +24,38 @@ pub record Engine : Type 0 where
   pub roster : List (List ℕ) → Roster
   pub says : List (List ℕ) → List ℕ → Answer
 
--- our engine: what is seen of the balancer, by the promises of `start` and `event`, from any former world w
+-- our engine: what is seen of the balancer, by the rules that the promises of `start` and `event` cite, from any former world w
 abbrev pub ours : World → Engine
 ours w =
     record {
       table = λ h. after w h .state .table;
       roster = λ h. after w h .state .roster;
       says = λ h bytes. answer w h bytes;
+    }
+
+-- a balancer in use, whatever its code: the world it was started on, the reply to the start, and after a history of event records the world
+-- and its reply to the next record
+pub record InUse : Type 0 where
+  pub former : World
+  pub started : Reply
+  pub world : List (List ℕ) → World
+  pub reply : List (List ℕ) → List ℕ → Reply
+
+-- "From a fresh start, with buffers and roster that only the balancer alters": the start was accepted, and each call keeps its promise on the
+-- world that the call before it left
+pub record Keeps (B : InUse) : Type 0 where
+  pub accepted : answerOf (B .started) .accepted ≡ true
+  pub starts : StartPromise (B .former) (B .world []) (B .started)
+  pub goes : (h : List (List ℕ)) (bytes : List ℕ) → AllBytes (bytes ∷ h)
+      → EventPromise bytes (B .world h) (B .world (bytes ∷ h)) (B .reply h bytes)
+
+-- what is seen of it
+abbrev pub shown : InUse → Engine
+shown B =
+    record {
+      table = λ h. B .world h .state .table;
+      roster = λ h. B .world h .state .roster;
+      says = λ h bytes. answerOf (B .reply h bytes);
     }
 
 -- ---- demand 2
@@ -74,7 +100,7 @@ pub record PacketRight (key t : List ℕ) (r : Roster) (a : Answer) (t′ : List
 -- no row, flag or ring entry there, so empty ones are handed in.
 abbrev pub otherwise : Request → List ℕ → Roster → Change
 otherwise e t r =
-    judged e (find (e .key) t) (record { server = 0; flag = false }) (record { table = t; rows = []; flags = []; roster = r })
+    judged e (find (e .key) t) (record { server = 0; flag = false }) (stateWith t [] [] r)
 
 -- "From a fresh start, with buffers and roster that only the balancer alters": demand 2 of an engine whose table has n bytes
 pub record Demand2 (n : ℕ) (E : Engine) : Type 0 where
@@ -112,11 +138,22 @@ pub record Provisos (E : Engine) (h : List (List ℕ)) (earlier key : List ℕ) 
   -- "and the earlier packet wasn't told there was no room"
   pub roomTold : E .says h earlier .mark ≢ 4
 
--- "two successive packets of one key get the same mover": the later one is accepted and gives the same mover
-abbrev pub Demand3 : Engine → Type 0
-Demand3 E =
-    (h between : List (List ℕ)) (earlier later key : List ℕ) → AllBytes (later ∷ (between ++ (earlier ∷ h)))
-    → eventIn earlier ≡ asksKey 1 key → eventIn later ≡ asksKey 1 key → E .says h earlier .accepted ≡ true
-    → Provisos E h earlier key (E .says h earlier .server) between
-    → (E .says (between ++ (earlier ∷ h)) later .accepted ≡ true)
-    × (E .says (between ++ (earlier ∷ h)) later .server ≡ E .says h earlier .server)
+-- "get the same mover": the later packet is accepted and gives the earlier one's mover, which at both is demand 2's, over its ranking
+pub record SameMover (E : Engine) (h between : List (List ℕ)) (earlier later key : List ℕ) : Type 0 where
+  pub accepted : E .says (between ++ (earlier ∷ h)) later .accepted ≡ true
+  pub same : E .says (between ++ (earlier ∷ h)) later .server ≡ E .says h earlier .server
+  pub first : E .says h earlier .server ≡ mover key (E .table h) (E .roster h)
+  pub last : E .says (between ++ (earlier ∷ h)) later .server
+      ≡ mover key (E .table (between ++ (earlier ∷ h))) (E .roster (between ++ (earlier ∷ h)))
+
+pub record Demand3 (E : Engine) : Type 0 where
+  -- "no key is recorded twice": of two records in the used part the keys differ
+  pub once : (h : List (List ℕ)) → AllBytes h → (front middle back : List Rec) (r r′ : Rec)
+      → entries (E .table h) ≡ front ++ (r ∷ (middle ++ (r′ ∷ back))) → r .key ≢ r′ .key
+  -- "and every record names a working mover"
+  pub named : (h : List (List ℕ)) → AllBytes h → (front back : List Rec) (r : Rec) → entries (E .table h) ≡ front ++ (r ∷ back)
+      → stateOf (r .server) (E .roster h) ≡ working
+  -- "And two successive packets of one key get the same mover, provided .."
+  pub steady : (h between : List (List ℕ)) (earlier later key : List ℕ) → AllBytes (later ∷ (between ++ (earlier ∷ h)))
+      → eventIn earlier ≡ asksKey 1 key → eventIn later ≡ asksKey 1 key → E .says h earlier .accepted ≡ true
+      → Provisos E h earlier key (E .says h earlier .server) between → SameMover E h between earlier later key

@@ -9,3 +9,4 @@ pub mod Keeping
 pub mod Changing
 pub mod Along
 pub mod Never
+pub mod Meaning
