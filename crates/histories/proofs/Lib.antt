@@ -1,3 +1,4 @@
+pub mod Meaning
 pub mod Sizes
 pub mod Refusals
 pub mod Recorded
@@ -9,4 +10,3 @@ pub mod Keeping
 pub mod Changing
 pub mod Along
 pub mod Never
-pub mod Meaning
