@@ -15,10 +15,10 @@ use Rattle.bigendian.proofs.RoundTrip.{number4-bytes4}
 use Rattle.spans.specs.Spans.{allZero}
 use Rattle.settings.specs.declared.Settings.{Settings}
 use Rattle.settings.specs.Settings.{fresh, named, wellFormed, valid}
-use Rattle.event.specs.Event.{Asked, noKey, refusedBy, asksKey, names, asksServer, configures, asksSettings, byKind, eventIn, allBytes}
+use Rattle.event.specs.Event.{Request, noKey, refusedBy, asksKey, names, asksServer, configures, asksSettings, byKind, eventIn, allBytes}
 
 -- the four things that a record can be
-pub data Outcome (l : List ℕ) : Asked → Type 0 where
+pub data Outcome (l : List ℕ) : Request → Type 0 where
   refused : (n : ℕ) → 0 < n → n ≤ 2 → Outcome l (refusedBy n)
   keyed : (k : ℕ) → 0 < k → k ≤ 2 → length l ≡ 16 → Outcome l (asksKey k (drop 3 l))
   naming : (k : ℕ) → 3 ≤ k → k ≤ 6 → 0 < number4At (drop 3 l) 0 → Outcome l (names k (number4At (drop 3 l) 0))
@@ -78,7 +78,7 @@ server-fits l b =
     (omega (arith, bytes-at l b 3, bytes-at l b 4, bytes-at l b 5, bytes-at l b 6))
 
 -- what holds of the fields of an event that a record is
-pub record Fields (l : List ℕ) (a : Asked) : Type 0 where
+pub record Fields (l : List ℕ) (a : Request) : Type 0 where
   pub refusal-small : a .refusal ≤ 2
   pub kind-small : a .kind ≤ 7
   pub kind-refused : 0 < a .refusal → a .kind ≡ 0
@@ -92,7 +92,7 @@ pub record Fields (l : List ℕ) (a : Asked) : Type 0 where
   pub settings-valid : valid (a .settings) ≡ true
   pub settings-fresh : (a .kind ≡ 7 → ⊥) → a .settings ≡ fresh
 
-fields : {l : List ℕ} {a : Asked} → Outcome l a → Fields l a
+fields : {l : List ℕ} {a : Request} → Outcome l a → Fields l a
 unfolding valid
 fields (refused n low high) =
     record {

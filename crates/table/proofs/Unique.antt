@@ -16,17 +16,17 @@ use Rattle.table.proofs.remove_server.Reads.{Learnt as remove-server-pr
 use Rattle.table.proofs.start.Reads.{Learnt as start-promise}
 
 -- `findingOf` tells any two answers apart
-pub findings-apart : (x y : Found) → findingOf x ≡ findingOf y → x ≡ y
-findings-apart (At m) (At n) e = ap At (ap (λ (f : Finding). f .reads) e)
-findings-apart (At m) (Nothing n) e = clash refl (ap (λ (f : Finding). f .found) e)
-findings-apart (Nothing m) (At n) e = clash (ap (λ (f : Finding). f .found) e) refl
-findings-apart (Nothing m) (Nothing n) e = ap Nothing (ap (λ (f : Finding). f .reads) e)
+pub told-apart : (x y : Found) → findingOf x ≡ findingOf y → x ≡ y
+told-apart (At m) (At n) e = ap At (ap (λ (f : Finding). f .reads) e)
+told-apart (At m) (Nothing n) e = clash refl (ap (λ (f : Finding). f .found) e)
+told-apart (Nothing m) (At n) e = clash (ap (λ (f : Finding). f .found) e) refl
+told-apart (Nothing m) (Nothing n) e = ap Nothing (ap (λ (f : Finding). f .reads) e)
 
 pub used-unique : (κs : _) (a : _) (x y : ℕ) (e e′ : _) → used-promise κs a x e → used-promise κs a y e′ → x ≡ y
 used-unique κs a x y e e′ p q = cc
 
 pub find-unique : (κs : _) (a : _) (x y : Found) (e e′ : _) → find-promise κs a x e → find-promise κs a y e′ → x ≡ y
-find-unique κs a x y e e′ p q = findings-apart x y (p ∙ sym q)
+find-unique κs a x y e e′ p q = told-apart x y (p ∙ sym q)
 
 pub server-at-unique : (κs : _) (a : _) (x y : ℕ) (e e′ : _) → server-at-promise κs a x e → server-at-promise κs a y e′ → x ≡ y
 server-at-unique κs a x y e e′ p q = cc
