@@ -2,7 +2,7 @@
 -- (`packet-reads` and so on) are the other direction; with both, no record is accepted but those that the document writes down.
 use Prim.Native.Nat.{ℕ, _+_, _*_, _/_, _%_, _<_, _≤_, _^_}
 use mathlib.Core.Bool.{true}
-use mathlib.Core.List.{List, [], _∷_, _++_}
+use mathlib.Core.List.{List, [], _∷_, _++_, map}
 use mathlib.Core.Path.{_≡_, refl, sym, ap, _∙_}
 use native.Mathlib.Omega.{arith}
 use lib.Dec.{eqb}
@@ -16,7 +16,9 @@ use Rattle.spans.specs.Spans.{allZero}
 use Rattle.spans.proofs.Scans.{allZero-zeros}
 use Rattle.settings.specs.declared.Settings.{Settings}
 use Rattle.settings.specs.Settings.{named, wellFormed, valid}
-use Rattle.event.specs.Event.{Request, refusedBy, asksKey, names, asksServer, configures, asksSettings, byKind, eventIn, allBytes}
+use Rattle.event.specs.declared.Ask.{Ask}
+use Rattle.event.specs.declared.Ask.the-variants.{Packet, End, AddWorking, RemoveWorking, AddHorizon, RemoveHorizon, Configure}
+use Rattle.event.specs.Event.{Request, requestBy, refusedBy, asksKey, names, asksServer, configures, asksSettings, byKind, eventIn, allBytes}
 use Rattle.event.proofs.Reading.{bytes-at, framed, by-server}
 
 -- the body of a record that names a server, and of one that configures
@@ -121,3 +123,9 @@ written l b =
 pub no-server-reads : (kind : ℕ) → 3 ≤ kind → kind ≤ 6 → eventIn (kind ∷ 0 ∷ 0 ∷ replicate 13 0) ≡ refusedBy 2
 unfolding asksServer allZero
 no-server-reads kind low high = framed kind (replicate 13 0) refl ∙ by-server kind (replicate 13 0) low high
+
+-- the table's first two columns: what each kind number asks
+pub kind-numbers : (key : List ℕ) (s : ℕ) (c : Settings)
+    → map (λ (a : Ask). requestBy a key .kind) (Packet ∷ End ∷ AddWorking s ∷ RemoveWorking s ∷ AddHorizon s ∷ RemoveHorizon s ∷ Configure c ∷ [])
+    ≡ 1 ∷ 2 ∷ 3 ∷ 4 ∷ 5 ∷ 6 ∷ 7 ∷ []
+kind-numbers key s c = refl
