@@ -47,6 +47,7 @@ pub record Request : Type 0 where
   pub server : ℕ
   pub settings : Settings
 
+-- a key is the whole body of its record; events without one have zeros there
 abbrev pub noKey : List ℕ
 noKey = replicate bodyBytes 0
 

@@ -12,7 +12,7 @@ use settings::Settings;
 // An event record's bytes: the kind, two zeros and the body.
 pub const EVENT_BYTES: usize = 16;
 
-// The kinds.
+// The kinds, in the order of document 01's table.
 pub const PACKET: u8 = 1;
 
 pub const END: u8 = 2;
@@ -39,7 +39,7 @@ pub enum Ask {
     Refused(u8),
 }
 
-// An event: what it asks, and for a packet or an end the key (else zeros).
+// An event: what it asks, and for a packet or an end the key, which is the whole body (else zeros).
 pub struct Event {
     pub ask: Ask,
     pub key: [u8; BODY_BYTES],

@@ -2,7 +2,7 @@
 ghost use mathlib.Core.Path.{_≡_};
 ghost use Rattle.settings.specs.Settings.{valid as valid-of, fresh as fresh-of, named as named-of, wellFormed};
 
-// The methods.
+// The three methods.
 pub const HRW: u8 = 1;
 
 pub const RING: u8 = 2;

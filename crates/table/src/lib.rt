@@ -12,10 +12,13 @@ ghost use Rattle.table.specs.Table.{usedTag, used as used-of, find as fi
 // A tracking record's bytes: the key, the tag, two zeros, the server's four bytes.
 pub const RECORD_BYTES: usize = 20;
 
+// A key's bytes, the first of a record.
 pub const KEY_BYTES: usize = 13;
 
+// Where a record's tag stands, counted from 0.
 pub const TAG_OFFSET: usize = 13;
 
+// Where its server's four bytes begin.
 pub const SERVER_OFFSET: usize = 16;
 
 // The tag of a new record.
