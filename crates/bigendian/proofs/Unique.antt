@@ -1,14 +1,16 @@
--- No second answer satisfies a promise of this crate: each gives the answer as an equation.
+-- No second answer keeps the promise of a public function of this crate. `Learnt` is what a caller learns from the function's contract.
 use Prim.Native.Nat.{ℕ}
 use mathlib.Core.List.{List}
 use mathlib.Core.Path.{_≡_}
-use Rattle.bigendian.specs.BigEndian.{bytes4, number4, number2}
+use Rattle.bigendian.proofs.split4.Reads.{Learnt as split4-promise}
+use Rattle.bigendian.proofs.join4.Reads.{Learnt as join4-promise}
+use Rattle.bigendian.proofs.join2.Reads.{Learnt as join2-promise}
 
-pub split4-unique : (n : ℕ) (x y : List ℕ) → x ≡ bytes4 n → y ≡ bytes4 n → x ≡ y
-split4-unique n x y p q = cc
+pub split4-unique : (κs : _) (a : _) (x y : List ℕ) (e e′ : _) → split4-promise κs a x e → split4-promise κs a y e′ → x ≡ y
+split4-unique κs a x y e e′ p q = cc
 
-pub join4-unique : (a b c d x y : ℕ) → x ≡ number4 a b c d → y ≡ number4 a b c d → x ≡ y
-join4-unique a b c d x y p q = cc
+pub join4-unique : (κs : _) (a : _) (x y : ℕ) (e e′ : _) → join4-promise κs a x e → join4-promise κs a y e′ → x ≡ y
+join4-unique κs a x y e e′ p q = cc
 
-pub join2-unique : (a b x y : ℕ) → x ≡ number2 a b → y ≡ number2 a b → x ≡ y
-join2-unique a b x y p q = cc
+pub join2-unique : (κs : _) (a : _) (x y : ℕ) (e e′ : _) → join2-promise κs a x e → join2-promise κs a y e′ → x ≡ y
+join2-unique κs a x y e e′ p q = cc

@@ -1,3 +1,4 @@
 pub mod Parts
 pub mod Reading
+pub mod Written
 pub mod Unique

@@ -171,7 +171,7 @@ pub end-reads : (key : List ℕ) → length key ≡ 13 → eventIn (2 ∷ 0 ∷ 
 unfolding byKind
 end-reads key n = framed 2 key n
 
-by-server : (kind : ℕ) (body : List ℕ) → 3 ≤ kind → kind ≤ 6 → byKind kind body ≡ asksServer kind body
+pub by-server : (kind : ℕ) (body : List ℕ) → 3 ≤ kind → kind ≤ 6 → byKind kind body ≡ asksServer kind body
 unfolding byKind
 by-server kind body low high =
     both (eqb kind 3) (λ e. rw (eqb-true kind 3 e)) (λ e₃.

@@ -1,4 +1,5 @@
--- Two events that are told the same are the same, so no second answer keeps the promise of `read`.
+-- `requestOf` tells any two events apart, so no second answer keeps the promise of `read`. `Learnt` is what a caller learns
+-- from its contract.
 use Prim.Native.Nat.{ℕ}
 use mathlib.Core.Bool.{cond}
 use mathlib.Core.List.{List}
@@ -7,9 +8,10 @@ use lib.Dec.{eqb}
 use Rattle.event.specs.declared.Ask.{Ask}
 use Rattle.event.specs.declared.Ask.the-variants.{Packet, End, AddWorking, RemoveWorking, AddHorizon, RemoveHorizon, Configure, Refused}
 use Rattle.event.specs.declared.Event.{Event}
-use Rattle.event.specs.Event.{Request, requestBy, requestOf, eventIn}
+use Rattle.event.specs.Event.{Request, requestBy, requestOf}
+use Rattle.event.proofs.read.Reads.{Learnt as read-promise}
 
--- what was asked, by the kind number under which it was told
+-- what was asked, by the request's kind number
 abbrev askBy : ℕ → Request → Ask
 askBy kind a =
     cond (eqb kind 1) Packet
@@ -36,5 +38,5 @@ back-as (Refused n) k = refl
 pub told-apart : (x y : Event) → requestOf x ≡ requestOf y → x ≡ y
 told-apart x y e = sym (back-as (x .ask) (x .key)) ∙ ap back e ∙ back-as (y .ask) (y .key)
 
-pub read-unique : (bytes : List ℕ) (x y : Event) → requestOf x ≡ eventIn bytes → requestOf y ≡ eventIn bytes → x ≡ y
-read-unique bytes x y p q = told-apart x y (p ∙ sym q)
+pub read-unique : (κs : _) (a : _) (x y : Event) (e e′ : _) → read-promise κs a x e → read-promise κs a y e′ → x ≡ y
+read-unique κs a x y e e′ p q = told-apart x y (p ∙ sym q)

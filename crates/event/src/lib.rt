@@ -5,8 +5,27 @@ ghost use lib.Dec.{eqb};
 ghost use lib.ListN.{length, drop};
 ghost use Rattle.bigendian.specs.BigEndian.{number4At};
 ghost use Rattle.spans.specs.Spans.{allZero};
-ghost use Rattle.event.specs.Event.{requestOf, requestBy, noKey, refusedBy, asksSettings, byKind, eventIn};
+ghost use Rattle.event.specs.Event.{requestOf, requestBy, noKey, refusedBy, asksSettings, byKind, eventIn, eventBytes};
+use settings::BODY_BYTES;
 use settings::Settings;
+
+// An event record's bytes: the kind, two zeros and the body.
+pub const EVENT_BYTES: usize = 16;
+
+// The kinds, in the order of document 01's table.
+pub const PACKET: u8 = 1;
+
+pub const END: u8 = 2;
+
+pub const ADD_WORKING: u8 = 3;
+
+pub const REMOVE_WORKING: u8 = 4;
+
+pub const ADD_HORIZON: u8 = 5;
+
+pub const REMOVE_HORIZON: u8 = 6;
+
+pub const CONFIGURE: u8 = 7;
 
 // What an event asks, or the number by which it is refused.
 pub enum Ask {
@@ -20,17 +39,17 @@ pub enum Ask {
     Refused(u8),
 }
 
-// An event: what it asks, and for a packet or an end the key (else zeros).
+// An event: what it asks, and for a packet or an end the key, which is the whole body (else zeros).
 pub struct Event {
     pub ask: Ask,
-    pub key: [u8; 13],
+    pub key: [u8; BODY_BYTES],
 }
 
 // Takes a record of bytes apart by its kind number.
 pub fn read(bytes: &[u8]) -> Event
     ensures { λ r. ⌜ requestOf r ≡ eventIn (now (bytes .entry)) ⌝ }
 {
-    if bytes.len() != 16 {
+    if bytes.len() != EVENT_BYTES {
         return refused(1);
     }
     if bytes[1] != 0 {
@@ -48,13 +67,13 @@ fn refused(number: u8) -> Event
 {
     Event {
         ask: Ask::Refused(number),
-        key: [0; 13],
+        key: [0; BODY_BYTES],
     }
 }
 
 // The bytes of a record that follow its kind and the two zeros.
-fn body_of(bytes: &[u8]) -> [u8; 13]
-    requires { ⌜ length (now bytes) ≡ 16 ⌝ }
+fn body_of(bytes: &[u8]) -> [u8; BODY_BYTES]
+    requires { ⌜ length (now bytes) ≡ eventBytes ⌝ }
     ensures { λ r. ⌜ r ≡ drop 3 (now (bytes .entry)) ⌝ }
 {
     [
@@ -75,36 +94,36 @@ fn body_of(bytes: &[u8]) -> [u8; 13]
 }
 
 // What a kind number makes of the bytes that follow it; a number that is no kind is refused.
-fn by_kind(kind: u8, body: [u8; 13]) -> Event
+fn by_kind(kind: u8, body: [u8; BODY_BYTES]) -> Event
     ensures { λ r. ⌜ requestOf r ≡ byKind kind body ⌝ }
 {
     match kind {
-        1 => Event {
+        PACKET => Event {
             ask: Ask::Packet,
             key: body,
         },
-        2 => Event {
+        END => Event {
             ask: Ask::End,
             key: body,
         },
-        3 => naming(body, Ask::AddWorking(server_in(body))),
-        4 => naming(body, Ask::RemoveWorking(server_in(body))),
-        5 => naming(body, Ask::AddHorizon(server_in(body))),
-        6 => naming(body, Ask::RemoveHorizon(server_in(body))),
-        7 => configure(body),
+        ADD_WORKING => naming(body, Ask::AddWorking(server_in(body))),
+        REMOVE_WORKING => naming(body, Ask::RemoveWorking(server_in(body))),
+        ADD_HORIZON => naming(body, Ask::AddHorizon(server_in(body))),
+        REMOVE_HORIZON => naming(body, Ask::RemoveHorizon(server_in(body))),
+        CONFIGURE => configure(body),
         _ => refused(1),
     }
 }
 
 // The server that the first four bytes spell.
-fn server_in(body: [u8; 13]) -> u32
+fn server_in(body: [u8; BODY_BYTES]) -> u32
     ensures { λ r. ⌜ r ≡ number4At body 0 ⌝ }
 {
     bigendian::join4(body[0], body[1], body[2], body[3])
 }
 
 // What is asked of the server that the bytes name, unless a byte after it isn't zero, or the server is 0.
-fn naming(body: [u8; 13], ask: Ask) -> Event
+fn naming(body: [u8; BODY_BYTES], ask: Ask) -> Event
     ensures { λ r. ⌜ requestOf r ≡ cond (allZero (drop 4 body)) (cond (eqb (number4At body 0) 0) (refusedBy 2) (requestBy ask noKey)) (refusedBy 1) ⌝ }
 {
     if !spans::all_zero(&body[4..]) {
@@ -115,12 +134,12 @@ fn naming(body: [u8; 13], ask: Ask) -> Event
     }
     Event {
         ask: ask,
-        key: [0; 13],
+        key: [0; BODY_BYTES],
     }
 }
 
 // Configure, with the settings that the bytes name where they are well formed.
-fn configure(body: [u8; 13]) -> Event
+fn configure(body: [u8; BODY_BYTES]) -> Event
     ensures { λ r. ⌜ requestOf r ≡ asksSettings body ⌝ }
 {
     if !settings::well_formed(body) {
@@ -128,6 +147,6 @@ fn configure(body: [u8; 13]) -> Event
     }
     Event {
         ask: Ask::Configure(settings::named(body)),
-        key: [0; 13],
+        key: [0; BODY_BYTES],
     }
 }

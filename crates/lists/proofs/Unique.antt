@@ -1,30 +1,38 @@
--- No second answer satisfies a promise of this crate: the reply, or the lent list afterwards, is given as an equation.
+-- No second answer keeps the promise of a public function of this crate. `Learnt` is what a caller learns from the function's contract;
+-- of a lent list, what it holds afterwards is the answer.
 use Prim.Native.Nat.{ℕ}
 use mathlib.Core.Bool.{Bool}
-use mathlib.Core.List.{List, _∷_}
 use mathlib.Core.Path.{_≡_}
-use lib.ListN.{length, take}
-use Rattle.spans.specs.Spans.{allZero, closed}
-use Rattle.lists.specs.Lists.{rising, allStated, placeIn, before}
+use denote.Ref.{now}
+use Rattle.lists.proofs.rising.Reads.{Learnt as rising-promise}
+use Rattle.lists.proofs.stated.Reads.{Learnt as stated-promise}
+use Rattle.lists.proofs.zeros.Reads.{Learnt as zeros-promise}
+use Rattle.lists.proofs.place.Reads.{Learnt as place-promise}
+use Rattle.lists.proofs.before.Reads.{Learnt as before-promise}
+use Rattle.lists.proofs.push_server.Reads.{Learnt as push-server-promise}
+use Rattle.lists.proofs.push_state.Reads.{Learnt as push-state-promise}
+use Rattle.lists.proofs.pull_server.Reads.{Learnt as pull-server-promise}
 
-pub rising-unique : (s : List ℕ) (x y : Bool) → x ≡ rising 0 s → y ≡ rising 0 s → x ≡ y
-rising-unique s x y p q = cc
+pub rising-unique : (κs : _) (a : _) (x y : Bool) (e e′ : _) → rising-promise κs a x e → rising-promise κs a y e′ → x ≡ y
+rising-unique κs a x y e e′ p q = cc
 
-pub stated-unique : (s : List ℕ) (x y : Bool) → x ≡ allStated s → y ≡ allStated s → x ≡ y
-stated-unique s x y p q = cc
+pub stated-unique : (κs : _) (a : _) (x y : Bool) (e e′ : _) → stated-promise κs a x e → stated-promise κs a y e′ → x ≡ y
+stated-unique κs a x y e e′ p q = cc
 
-pub zeros-unique : (s : List ℕ) (x y : Bool) → x ≡ allZero s → y ≡ allZero s → x ≡ y
-zeros-unique s x y p q = cc
+pub zeros-unique : (κs : _) (a : _) (x y : Bool) (e e′ : _) → zeros-promise κs a x e → zeros-promise κs a y e′ → x ≡ y
+zeros-unique κs a x y e e′ p q = cc
 
-pub place-unique : (server : ℕ) (s : List ℕ) (x y : ℕ) → x ≡ placeIn server s → y ≡ placeIn server s → x ≡ y
-place-unique server s x y p q = cc
+pub place-unique : (κs : _) (a : _) (x y : ℕ) (e e′ : _) → place-promise κs a x e → place-promise κs a y e′ → x ≡ y
+place-unique κs a x y e e′ p q = cc
 
-pub before-unique : (server : ℕ) (s : List ℕ) (x y : ℕ) → x ≡ before server s → y ≡ before server s → x ≡ y
-before-unique server s x y p q = cc
+pub before-unique : (κs : _) (a : _) (x y : ℕ) (e e′ : _) → before-promise κs a x e → before-promise κs a y e′ → x ≡ y
+before-unique κs a x y e e′ p q = cc
 
--- of a server put in front, and of a state
-pub push-unique : (x : ℕ) (s after after′ : List ℕ) → after ≡ take (length s) (x ∷ s) → after′ ≡ take (length s) (x ∷ s) → after ≡ after′
-push-unique x s after after′ p q = cc
+pub push-server-unique : (κs : _) (a : _) (x y : _) (e e′ : _) → push-server-promise κs a x e → push-server-promise κs a y e′ → now (e .0) ≡ now (e′ .0)
+push-server-unique κs a x y e e′ p q = cc
 
-pub pull-unique : (s after after′ : List ℕ) → after ≡ closed 1 s → after′ ≡ closed 1 s → after ≡ after′
-pull-unique s after after′ p q = cc
+pub push-state-unique : (κs : _) (a : _) (x y : _) (e e′ : _) → push-state-promise κs a x e → push-state-promise κs a y e′ → now (e .0) ≡ now (e′ .0)
+push-state-unique κs a x y e e′ p q = cc
+
+pub pull-server-unique : (κs : _) (a : _) (x y : _) (e e′ : _) → pull-server-promise κs a x e → pull-server-promise κs a y e′ → now (e .0) ≡ now (e′ .0)
+pull-server-unique κs a x y e e′ p q = cc

@@ -4,13 +4,8 @@ use mathlib.Core.Bool.{Bool, true, false, cond}
 use mathlib.Core.List.{List, [], _∷_, _++_}
 use lib.Dec.{eqb, ltb}
 use lib.ListN.{take, drop}
-
--- a held server's state: "It is working, in the horizon, or unknown."
-abbrev pub working : ℕ
-working = 1
-
-abbrev pub standby : ℕ
-standby = 2
+-- the two states of a held server, passed on
+pub use Rattle.sets.specs.Sets.{working, standby}
 
 -- "servers in rising order": each above the one before it, the first above `last`. Above 0 at the start, so none is 0 and none stands twice.
 unfoldable pub rising : ℕ → List ℕ → Bool

@@ -1,4 +1,6 @@
 // Scans and moves of lent lists of servers and of their states.
+use sets::STANDBY;
+use sets::WORKING;
 ghost use mathlib.Core.Path.{_≡_};
 ghost use mathlib.Core.List.{_∷_};
 ghost use lib.ListN.{length, take};
@@ -30,8 +32,8 @@ pub fn stated(s: &[u8]) -> bool
     let mut i = 0;
     while i < s.len() {
         let x = s[i];
-        if x != 1 {
-            if x != 2 {
+        if x != WORKING {
+            if x != STANDBY {
                 good = false;
             }
         }

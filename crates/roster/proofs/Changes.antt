@@ -15,7 +15,7 @@ use Rattle.sets.proofs.Cases.{both, clash}
 use Rattle.spans.specs.Spans.{allZero}
 use Rattle.roster.specs.declared.Roster.{Roster}
 use Rattle.lists.specs.Lists.{allStated, before, putIn}
-use Rattle.roster.specs.Roster.{sound, heldServers, heldStates, stateOf, restated, withState, addedWorking, removedWorking, addedHorizon}
+use Rattle.roster.specs.Roster.{working, standby, sound, heldServers, heldStates, stateOf, restated, withState, addedWorking, removedWorking, addedHorizon}
 use Rattle.lists.proofs.Scans.{before-le}
 use Rattle.lists.proofs.Order.{rise-in}
 use Rattle.roster.proofs.States.{absent-state, state-restated, state-in}
@@ -57,7 +57,7 @@ module _ (s : ℕ) (r : Roster) where
   unfolding allStated
   addedWorking-sound so = restate-sound s 1 r refl so
 
-  pub addedWorking-state : stateOf s r ≡ 2 → (x : ℕ) → stateOf x (addedWorking s r) ≡ cond (eqb x s) 1 (stateOf x r)
+  pub addedWorking-state : stateOf s r ≡ standby → (x : ℕ) → stateOf x (addedWorking s r) ≡ cond (eqb x s) working (stateOf x r)
   addedWorking-state e x = restate-state s 1 r x (λ q. omega (arith, e, q))
 
   pub addedWorking-held : addedWorking s r .held ≡ r .held
@@ -75,7 +75,7 @@ module _ (s : ℕ) (r : Roster) where
   unfolding allStated
   removedWorking-sound so = restate-sound s 2 r refl so
 
-  pub removedWorking-state : stateOf s r ≡ 1 → (x : ℕ) → stateOf x (removedWorking s r) ≡ cond (eqb x s) 2 (stateOf x r)
+  pub removedWorking-state : stateOf s r ≡ working → (x : ℕ) → stateOf x (removedWorking s r) ≡ cond (eqb x s) standby (stateOf x r)
   removedWorking-state e x = restate-state s 2 r x (λ q. omega (arith, e, q))
 
   pub removedWorking-held : removedWorking s r .held ≡ r .held
@@ -95,7 +95,7 @@ module _ (s : ℕ) (r : Roster) (room : r .held < 64) where
   pub addedHorizon-is : addedHorizon s r
       ≡ record {
         servers = putIn (before s (heldServers r)) (r .held) s (r .servers);
-        states = putIn (before s (heldServers r)) (r .held) 2 (r .states);
+        states = putIn (before s (heldServers r)) (r .held) standby (r .states);
         held = r .held + 1;
         settings = r .settings;
       }
@@ -117,7 +117,7 @@ module _ (s : ℕ) (r : Roster) (room : r .held < 64) where
         rw addedHorizon-is
         (record {
           servers-64 = length-putIn (before s (heldServers r)) (r .held) s (r .servers) within (omega (arith, z .servers-64)) ∙ z .servers-64;
-          states-64 = length-putIn (before s (heldServers r)) (r .held) 2 (r .states) within (omega (arith, z .states-64)) ∙ z .states-64;
+          states-64 = length-putIn (before s (heldServers r)) (r .held) standby (r .states) within (omega (arith, z .states-64)) ∙ z .states-64;
         })
 
     pub addedHorizon-servers : heldServers (addedHorizon s r)
@@ -128,9 +128,9 @@ module _ (s : ℕ) (r : Roster) (room : r .held < 64) where
     pub addedHorizon-states : heldStates (addedHorizon s r)
         ≡ take (before s (heldServers r)) (heldStates r) ++ (2 ∷ drop (before s (heldServers r)) (heldStates r))
     addedHorizon-states =
-        rw addedHorizon-is (held-putIn (before s (heldServers r)) (r .held) 2 (r .states) within (omega (arith, z .states-64)))
+        rw addedHorizon-is (held-putIn (before s (heldServers r)) (r .held) standby (r .states) within (omega (arith, z .states-64)))
 
-    pub addedHorizon-state : (x : ℕ) → stateOf x (addedHorizon s r) ≡ cond (eqb x s) 2 (stateOf x r)
+    pub addedHorizon-state : (x : ℕ) → stateOf x (addedHorizon s r) ≡ cond (eqb x s) standby (stateOf x r)
     addedHorizon-state x =
         rw (addedHorizon-servers, addedHorizon-states)
         (state-in x s 2 (heldServers r) (heldStates r) (held-same r z (omega arith)))
@@ -151,7 +151,7 @@ module _ (s : ℕ) (r : Roster) (room : r .held < 64) where
               rw (addedHorizon-is, rest-putIn b (r .held) s (r .servers) within (omega (arith, z .servers-64)))
               (allZero-tail (r .servers) (r .held) (omega (arith, z .servers-64)) (p .servers-zero));
           states-zero =
-              rw (addedHorizon-is, rest-putIn b (r .held) 2 (r .states) within (omega (arith, z .states-64)))
+              rw (addedHorizon-is, rest-putIn b (r .held) standby (r .states) within (omega (arith, z .states-64)))
               (allZero-tail (r .states) (r .held) (omega (arith, z .states-64)) (p .states-zero));
           settings-valid = rw addedHorizon-is (p .settings-valid);
         })

@@ -16,7 +16,7 @@ use Rattle.settings.specs.Settings.{valid}
 use Rattle.roster.specs.declared.Roster.{Roster}
 use Rattle.sets.specs.Sets.{inState}
 use Rattle.lists.specs.Lists.{rising, allStated}
-use Rattle.roster.specs.Roster.{sound, heldServers, heldStates, emptyRoster}
+use Rattle.roster.specs.Roster.{sound, heldServers, heldStates, stateIn, stateOf, emptyRoster}
 use Rattle.lists.proofs.Scans.{inState-step, inState-end}
 
 -- 64 places, as every roster in code has
@@ -123,6 +123,11 @@ empty-sized = record { servers-64 = refl; states-64 = refl }
 pub empty-sound : sound emptyRoster ≡ true
 unfolding sound rising allStated allZero valid
 empty-sound = refl
+
+-- "Starting .. empties the roster": every server is unknown
+pub empty-unknown : (x : ℕ) → stateOf x emptyRoster ≡ 0
+unfolding stateIn
+empty-unknown x = refl
 
 -- configure: the same servers under other settings
 abbrev pub withSettings : Settings → Roster → Roster

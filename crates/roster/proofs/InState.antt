@@ -11,7 +11,7 @@ use Rattle.sets.specs.Sets.{member, Within, inState}
 use Rattle.sets.proofs.Cases.{both, clash}
 use Rattle.sets.proofs.Members.{member-cases, member-tail}
 use Rattle.lists.specs.Lists.{rising, allStated, placeIn}
-use Rattle.roster.specs.Roster.{stateIn}
+use Rattle.roster.specs.Roster.{working, standby, stateIn}
 use Rattle.lists.proofs.Order.{rise-tail, rise-none}
 use Rattle.lists.proofs.OfStates.{stated-tail}
 use Rattle.roster.proofs.States.{state-absent}
@@ -52,12 +52,12 @@ member-inState last x k (y ∷ ys) (v ∷ xs) z e =
 
 -- every server is of one of the two states
 pub inState-count : (ys xs : List ℕ) → length ys ≡ length xs → allStated xs ≡ true
-    → length (inState 1 ys xs) + length (inState 2 ys xs) ≡ length ys
+    → length (inState working ys xs) + length (inState standby ys xs) ≡ length ys
 unfolding inState allStated
 inState-count [] xs l a = refl
 inState-count (y ∷ ys) [] l a = absurd (omega arith)
 inState-count (y ∷ ys) (z ∷ xs) l a =
-    let i : length (inState 1 ys xs) + length (inState 2 ys xs) ≡ length ys = inState-count ys xs (omega arith) (stated-tail z xs a) in
+    let i : length (inState working ys xs) + length (inState standby ys xs) ≡ length ys = inState-count ys xs (omega arith) (stated-tail z xs a) in
     both
     (eqb z 1)
     (λ t. rw (eqb-true z 1 t) (omega arith))

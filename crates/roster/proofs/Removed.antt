@@ -11,7 +11,7 @@ use Rattle.sets.proofs.Cases.{both}
 use Rattle.spans.specs.Spans.{allZero}
 use Rattle.roster.specs.declared.Roster.{Roster}
 use Rattle.lists.specs.Lists.{takenOut}
-use Rattle.roster.specs.Roster.{sound, heldServers, heldStates, stateOf, placeOf, removedHorizon}
+use Rattle.roster.specs.Roster.{standby, sound, heldServers, heldStates, stateOf, placeOf, removedHorizon}
 use Rattle.roster.proofs.Places.{state-none}
 use Rattle.lists.proofs.Order.{rise-out}
 use Rattle.roster.proofs.States.{state-out}
@@ -23,7 +23,7 @@ zero-more : (l : List ℕ) → allZero l ≡ true → allZero (0 ∷ l) ≡ true
 unfolding allZero
 zero-more l e = e
 
-module _ (s : ℕ) (r : Roster) (z : Sized r) (so : sound r ≡ true) (e : stateOf s r ≡ 2) where
+module _ (s : ℕ) (r : Roster) (z : Sized r) (so : sound r ≡ true) (e : stateOf s r ≡ standby) where
   few : r .held ≤ 64
   few = sound-parts r so .few
 

@@ -9,7 +9,7 @@ use borrow.Author.Tests.{eq-eqb}
 use Rattle.sets.specs.Sets.{member}
 use Rattle.roster.specs.declared.Roster.{Roster}
 use Rattle.lists.specs.Lists.{before}
-use Rattle.roster.specs.Roster.{sound, heldServers, heldStates, stateOf, workingSet, horizon, addedWorking, removedWorking, addedHorizon, removedHorizon}
+use Rattle.roster.specs.Roster.{working, standby, sound, heldServers, heldStates, stateOf, workingSet, horizon, addedWorking, removedWorking, addedHorizon, removedHorizon}
 use Rattle.roster.proofs.InState.{inState-in, inState-out}
 use Rattle.roster.proofs.Form.{Sized, sound-parts, held-same}
 use Rattle.roster.proofs.Changes.{addedWorking-sound, addedWorking-state, removedWorking-sound, removedWorking-state, addedHorizon-sound, addedHorizon-state, addedHorizon-servers, addedHorizon-states}
@@ -26,7 +26,7 @@ loses true m n k e = e
 loses false m n k e = refl
 
 -- add working
-module _ (s : ℕ) (r : Roster) (so : sound r ≡ true) (e : stateOf s r ≡ 2) where
+module _ (s : ℕ) (r : Roster) (so : sound r ≡ true) (e : stateOf s r ≡ standby) where
   pub addedWorking-working : (x : ℕ) → member x (workingSet (addedWorking s r)) ≡ eqb x s || member x (workingSet r)
   addedWorking-working x =
       working-state (addedWorking s r) (addedWorking-sound s r so) x
@@ -38,7 +38,7 @@ module _ (s : ℕ) (r : Roster) (so : sound r ≡ true) (e : stateOf s r ≡ 2) 
       ∙ rw (addedWorking-state s r e x, horizon-state r so x) (loses (eqb x s) 1 (stateOf x r) 2 refl)
 
 -- remove working
-module _ (s : ℕ) (r : Roster) (so : sound r ≡ true) (e : stateOf s r ≡ 1) where
+module _ (s : ℕ) (r : Roster) (so : sound r ≡ true) (e : stateOf s r ≡ working) where
   pub removedWorking-working : (x : ℕ) → member x (workingSet (removedWorking s r)) ≡ not (eqb x s) && member x (workingSet r)
   removedWorking-working x =
       working-state (removedWorking s r) (removedWorking-sound s r so) x
@@ -62,7 +62,7 @@ module _ (s : ℕ) (r : Roster) (z : Sized r) (so : sound r ≡ true) (room : r 
       ∙ rw (addedHorizon-state s r room z x, horizon-state r so x) (gains (eqb x s) (stateOf x r) 2)
 
 -- remove horizon
-module _ (s : ℕ) (r : Roster) (z : Sized r) (so : sound r ≡ true) (e : stateOf s r ≡ 2) where
+module _ (s : ℕ) (r : Roster) (z : Sized r) (so : sound r ≡ true) (e : stateOf s r ≡ standby) where
   pub removedHorizon-working : workingSet (removedHorizon s r) ≡ workingSet r
   removedHorizon-working =
       rw (removedHorizon-servers s r z so e, removedHorizon-states s r z so e)

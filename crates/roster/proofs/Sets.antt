@@ -10,7 +10,7 @@ use Rattle.sets.specs.Sets.{member, Within}
 use Rattle.sets.proofs.Cases.{both}
 use Rattle.roster.specs.declared.Roster.{Roster}
 use Rattle.lists.specs.Lists.{rising}
-use Rattle.roster.specs.Roster.{sound, heldServers, heldStates, stateOf, workingSet, horizon}
+use Rattle.roster.specs.Roster.{working, standby, sound, heldServers, heldStates, stateOf, workingSet, horizon}
 use Rattle.lists.proofs.Order.{rise-none, rise-inState}
 use Rattle.roster.proofs.States.{state-absent, absent-state, state-held}
 use Rattle.roster.proofs.InState.{inState-within, member-inState, inState-count}
@@ -23,10 +23,10 @@ pub horizon-within : (r : Roster) → Within (horizon r) (heldServers r)
 horizon-within r = inState-within 2 (heldServers r) (heldStates r)
 
 module _ (r : Roster) (so : sound r ≡ true) where
-  pub working-state : (x : ℕ) → member x (workingSet r) ≡ eqb (stateOf x r) 1
+  pub working-state : (x : ℕ) → member x (workingSet r) ≡ eqb (stateOf x r) working
   working-state x = member-inState 0 x 1 (heldServers r) (heldStates r) refl (sound-parts r so .rises)
 
-  pub horizon-state : (x : ℕ) → member x (horizon r) ≡ eqb (stateOf x r) 2
+  pub horizon-state : (x : ℕ) → member x (horizon r) ≡ eqb (stateOf x r) standby
   horizon-state x = member-inState 0 x 2 (heldServers r) (heldStates r) refl (sound-parts r so .rises)
 
   -- each stands once, in rising order
@@ -71,8 +71,8 @@ module _ (r : Roster) (so : sound r ≡ true) where
     pub unknown-free : (x : ℕ) → stateOf x r ≡ 0 → member x (heldServers r) ≡ false
     unknown-free x e = absent-state x (heldServers r) (heldStates r) same (sound-parts r so .stated) e
 
-    -- a state is 0, 1 or 2
-    pub state-cases : {C : Type 0} (x : ℕ) → (stateOf x r ≡ 0 → C) → (stateOf x r ≡ 1 → C) → (stateOf x r ≡ 2 → C) → C
+    -- a state is 0, working or standby
+    pub state-cases : {C : Type 0} (x : ℕ) → (stateOf x r ≡ 0 → C) → (stateOf x r ≡ working → C) → (stateOf x r ≡ standby → C) → C
     state-cases x a b c =
         both
         (member x (heldServers r))

@@ -12,7 +12,7 @@ use Rattle.sets.proofs.Cases.{both, clash}
 use Rattle.lists.specs.Lists.{rising, allStated, before, placeIn}
 use Rattle.lists.proofs.Order.{rise-tail, rise-none}
 use Rattle.lists.proofs.OfStates.{stated-head, stated-tail}
-use Rattle.roster.specs.Roster.{stateIn, restated}
+use Rattle.roster.specs.Roster.{working, standby, stateIn, restated}
 
 -- two tests of the same numbers, the other way round
 eqb-swap : (a b : ℕ) (t : Bool) → eqb a b ≡ t → eqb b a ≡ t
@@ -41,7 +41,7 @@ absent-state x (y ∷ ys) (z ∷ xs) l a e =
 
 -- a held server is working or in the horizon
 pub state-held : {C : Type 0} (x : ℕ) (ys xs : List ℕ) → length ys ≡ length xs → allStated xs ≡ true → member x ys ≡ true
-    → (stateIn x ys xs ≡ 1 → C) → (stateIn x ys xs ≡ 2 → C) → C
+    → (stateIn x ys xs ≡ working → C) → (stateIn x ys xs ≡ standby → C) → C
 unfolding stateIn allStated
 state-held x [] xs l a m f g = clash m refl
 state-held x (y ∷ ys) [] l a m f g = absurd (omega arith)

@@ -9,8 +9,8 @@ use Rattle.spans.specs.Spans.{allZero}
 use Rattle.lists.specs.Lists.{rising, allStated, before, putIn, placeIn, takenOut}
 use Rattle.settings.specs.Settings.{valid, fresh}
 use Rattle.roster.specs.declared.Roster.{Roster}
--- the two states of a held server, passed on
-pub use Rattle.lists.specs.Lists.{working, standby}
+-- the two states of a held server and the most servers held, passed on
+pub use Rattle.sets.specs.Sets.{working, standby, mostServers}
 
 -- the servers held, and their states
 abbrev pub heldServers : Roster → List ℕ
@@ -22,7 +22,7 @@ heldStates r = take (r .held) (r .states)
 -- refusal 11, turned round: "more than 64, out of order, server 0 or twice, a used unused place, bad method or row count"
 unfoldable pub sound : Roster → Bool
 sound r =
-    cond (leb (r .held) 64)
+    cond (leb (r .held) mostServers)
     (cond (rising 0 (heldServers r))
     (cond (allStated (heldStates r))
     (cond (allZero (drop (r .held) (r .servers)))
@@ -62,10 +62,10 @@ addedWorking s r = withState s working r
 abbrev pub removedWorking : ℕ → Roster → Roster
 removedWorking s r = withState s standby r
 
--- add horizon: a new server, in its rising place, where fewer than 64 are held; else the roster stays as it is
+-- add horizon: a new server, in its rising place, where fewer than the most are held; else the roster stays as it is
 unfoldable pub addedHorizon : ℕ → Roster → Roster
 addedHorizon s r =
-    cond (ltb (r .held) 64)
+    cond (ltb (r .held) mostServers)
     (record {
       servers = putIn (before s (heldServers r)) (r .held) s (r .servers);
       states = putIn (before s (heldServers r)) (r .held) standby (r .states);
@@ -92,4 +92,4 @@ removedHorizon s r =
 
 -- "Starting .. empties the roster and selects method 1."
 abbrev pub emptyRoster : Roster
-emptyRoster = record { servers = replicate 64 0; states = replicate 64 0; held = 0; settings = fresh }
+emptyRoster = record { servers = replicate mostServers 0; states = replicate mostServers 0; held = 0; settings = fresh }

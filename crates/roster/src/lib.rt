@@ -1,15 +1,18 @@
 // The roster of servers: handed in by value, handed back changed.
 ghost use mathlib.Core.Path.{_≡_};
-ghost use Rattle.roster.specs.Roster.{sound as sound-of, stateOf, addedWorking, removedWorking, addedHorizon, removedHorizon, emptyRoster, withState};
+ghost use Rattle.roster.specs.Roster.{sound as sound-of, stateOf, addedWorking, removedWorking, addedHorizon, removedHorizon, emptyRoster, withState, mostServers};
 ghost use Prim.Native.Nat.{min};
+use sets::MOST_SERVERS;
+use sets::STANDBY;
+use sets::WORKING;
 use settings::Settings;
 
 pub mod parts;
 
 // At most 64 servers in rising order, each working (1) or in the horizon (2); unused places zero.
 pub struct Roster {
-    pub servers: [u32; 64],
-    pub states: [u8; 64],
+    pub servers: [u32; MOST_SERVERS],
+    pub states: [u8; MOST_SERVERS],
     pub held: usize,
     pub settings: Settings,
 }
@@ -19,8 +22,8 @@ pub fn empty() -> Roster
     ensures { λ r. ⌜ r ≡ emptyRoster ⌝ }
 {
     Roster {
-        servers: [0u32; 64],
-        states: [0u8; 64],
+        servers: [0u32; MOST_SERVERS],
+        states: [0u8; MOST_SERVERS],
         held: 0,
         settings: settings::fresh(),
     }
@@ -31,7 +34,7 @@ pub fn sound(r: Roster) -> bool
     ensures { λ v. ⌜ v ≡ sound-of r ⌝ }
 {
     let held = r.held;
-    if held > 64 {
+    if held > MOST_SERVERS {
         return false;
     }
     let servers: &[u32] = &r.servers;
@@ -68,14 +71,14 @@ pub fn state_of(r: Roster, server: u32) -> u8
 pub fn add_working(r: Roster, server: u32) -> Roster
     ensures { λ v. ⌜ v ≡ addedWorking server r ⌝ }
 {
-    with_state(r, server, 1)
+    with_state(r, server, WORKING)
 }
 
 // A server taken out of work, straight to the horizon.
 pub fn remove_working(r: Roster, server: u32) -> Roster
     ensures { λ v. ⌜ v ≡ removedWorking server r ⌝ }
 {
-    with_state(r, server, 2)
+    with_state(r, server, STANDBY)
 }
 
 // A new server taken into the horizon, in its rising place.
@@ -83,7 +86,7 @@ pub fn add_horizon(r: Roster, server: u32) -> Roster
     ensures { λ v. ⌜ v ≡ addedHorizon server r ⌝ }
 {
     let held = r.held;
-    if held >= 64 {
+    if held >= MOST_SERVERS {
         return r;
     }
     let mut servers = r.servers;
@@ -91,7 +94,7 @@ pub fn add_horizon(r: Roster, server: u32) -> Roster
     let p = lists::before(&servers[..held], server);
     let end = held + 1;
     lists::push_server(&mut servers[p..end], server);
-    lists::push_state(&mut states[p..end], 2);
+    lists::push_state(&mut states[p..end], STANDBY);
     let settings = r.settings;
     Roster {
         servers: servers,
@@ -125,12 +128,12 @@ pub fn remove_horizon(r: Roster, server: u32) -> Roster
 
 // The number of places in use: those held, of a roster that claims more than 64 all.
 pub fn in_use(held: usize) -> usize
-    ensures { λ n. ⌜ n ≡ min held 64 ⌝ }
+    ensures { λ n. ⌜ n ≡ min held mostServers ⌝ }
 {
-    if held < 64 {
+    if held < MOST_SERVERS {
         return held;
     }
-    64
+    MOST_SERVERS
 }
 
 // The roster with a held server's state set.

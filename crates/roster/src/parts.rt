@@ -1,4 +1,5 @@
 // A roster's parts, lent: what a packet asks of the roster, without a copy of its two lists.
+use sets::MOST_SERVERS;
 use settings::Settings;
 ghost use mathlib.Core.Path.{_≡_};
 ghost use mathlib.Core.Bool.{false, cond};
@@ -18,7 +19,7 @@ pub fn sound(servers: &[u32], states: &[u8], held: usize, settings: Settings) ->
     if held > states.len() {
         return false;
     }
-    if held > 64 {
+    if held > MOST_SERVERS {
         return false;
     }
     if !lists::rising(&servers[..held]) {

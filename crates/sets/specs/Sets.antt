@@ -18,6 +18,17 @@ Within m l = (x : ℕ) → member x m ≡ true → member x l ≡ true
 abbrev pub SameSet : List ℕ → List ℕ → Type 0
 SameSet l m = (x : ℕ) → member x l ≡ member x m
 
+-- the state of a held server: "It is working, in the horizon, or unknown." The document leaves the two numbers open; an unknown server has none of them
+abbrev pub working : ℕ
+working = 1
+
+abbrev pub standby : ℕ
+standby = 2
+
+-- "Working and horizon together hold at most 64."
+abbrev pub mostServers : ℕ
+mostServers = 64
+
 -- the servers that are in a state: those at whose place the second list has k
 unfoldable pub inState : ℕ → List ℕ → List ℕ → List ℕ
 inState k [] xs = []

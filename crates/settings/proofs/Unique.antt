@@ -1,19 +1,20 @@
--- No second answer keeps the promise of a function of this crate.
-use Prim.Native.Nat.{ℕ}
+-- No second answer keeps the promise of a public function of this crate. `Learnt` is what a caller learns from the function's contract.
 use mathlib.Core.Bool.{Bool}
-use mathlib.Core.List.{List}
-use mathlib.Core.Path.{_≡_, sym, _∙_}
+use mathlib.Core.Path.{_≡_}
 use Rattle.settings.specs.declared.Settings.{Settings}
-use Rattle.settings.specs.Settings.{valid, fresh, named, wellFormed}
+use Rattle.settings.proofs.valid.Reads.{Learnt as valid-promise}
+use Rattle.settings.proofs.fresh.Reads.{Learnt as fresh-promise}
+use Rattle.settings.proofs.named.Reads.{Learnt as named-promise}
+use Rattle.settings.proofs.well_formed.Reads.{Learnt as well-formed-promise}
 
-pub valid-unique : (s : Settings) (x y : Bool) → x ≡ valid s → y ≡ valid s → x ≡ y
-valid-unique s x y p q = p ∙ sym q
+pub valid-unique : (κs : _) (a : _) (x y : Bool) (e e′ : _) → valid-promise κs a x e → valid-promise κs a y e′ → x ≡ y
+valid-unique κs a x y e e′ p q = cc
 
-pub fresh-unique : (x y : Settings) → x ≡ fresh → y ≡ fresh → x ≡ y
-fresh-unique x y p q = p ∙ sym q
+pub fresh-unique : (κs : _) (a : _) (x y : Settings) (e e′ : _) → fresh-promise κs a x e → fresh-promise κs a y e′ → x ≡ y
+fresh-unique κs a x y e e′ p q = cc
 
-pub named-unique : (body : List ℕ) (x y : Settings) → x ≡ named body → y ≡ named body → x ≡ y
-named-unique body x y p q = p ∙ sym q
+pub named-unique : (κs : _) (a : _) (x y : Settings) (e e′ : _) → named-promise κs a x e → named-promise κs a y e′ → x ≡ y
+named-unique κs a x y e e′ p q = cc
 
-pub well-formed-unique : (body : List ℕ) (x y : Bool) → x ≡ wellFormed body → y ≡ wellFormed body → x ≡ y
-well-formed-unique body x y p q = p ∙ sym q
+pub well-formed-unique : (κs : _) (a : _) (x y : Bool) (e e′ : _) → well-formed-promise κs a x e → well-formed-promise κs a y e′ → x ≡ y
+well-formed-unique κs a x y e e′ p q = cc

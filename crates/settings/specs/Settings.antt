@@ -1,4 +1,4 @@
--- What configure sets for the whole roster: the method (1 HRW, 2 ring, 3 row table) and the row count. One definition of which settings
+-- What configure sets for the whole roster: the method and the row count. One definition of which settings
 -- are valid serves refusal 1 (configure) and refusal 11 (roster).
 use Prim.Native.Nat.{ℕ}
 use mathlib.Core.Bool.{Bool, true, false, cond}
@@ -9,16 +9,34 @@ use Rattle.bigendian.specs.BigEndian.{number2At}
 use Rattle.spans.specs.Spans.{allZero}
 use Rattle.settings.specs.declared.Settings.{Settings}
 
--- "three methods: 1 HRW, 2 ring, 3 row table"; "Row count is 1 to 4,096 for method 3 and 0 for the others."
+-- "three methods: 1 HRW, 2 ring, 3 row table"
+abbrev pub byHrw : ℕ
+byHrw = 1
+
+abbrev pub byRing : ℕ
+byRing = 2
+
+abbrev pub byRowTable : ℕ
+byRowTable = 3
+
+-- the highest row count
+abbrev pub mostRows : ℕ
+mostRows = 4096
+
+-- what stands in an event record behind its kind and the two zeros: "Bytes 3 to 15"
+abbrev pub bodyBytes : ℕ
+bodyBytes = 13
+
+-- "Row count is 1 to 4,096 for method 3 and 0 for the others."
 unfoldable pub valid : Settings → Bool
 valid s =
-    cond (eqb (s .method) 3)
-    (cond (leb 1 (s .rows)) (leb (s .rows) 4096) false)
-    (cond (eqb (s .rows) 0) (cond (eqb (s .method) 1) true (eqb (s .method) 2)) false)
+    cond (eqb (s .method) byRowTable)
+    (cond (leb 1 (s .rows)) (leb (s .rows) mostRows) false)
+    (cond (eqb (s .rows) 0) (cond (eqb (s .method) byHrw) true (eqb (s .method) byRing)) false)
 
 -- "Starting .. selects method 1"; its row count is 0
 abbrev pub fresh : Settings
-fresh = record { method = 1; rows = 0 }
+fresh = record { method = byHrw; rows = 0 }
 
 -- the settings that configure's bytes 3 to 15 name: "method 1, row count 2 big-endian, then zeros"
 abbrev pub named : List ℕ → Settings

@@ -2,7 +2,20 @@
 ghost use mathlib.Core.Path.{_≡_};
 ghost use Rattle.settings.specs.Settings.{valid as valid-of, fresh as fresh-of, named as named-of, wellFormed};
 
-// The method (1 HRW, 2 ring, 3 row table) and the number of rows.
+// The three methods.
+pub const HRW: u8 = 1;
+
+pub const RING: u8 = 2;
+
+pub const ROW_TABLE: u8 = 3;
+
+// The highest row count of the row table.
+pub const MOST_ROWS: u16 = 4096;
+
+// What stands in an event record behind its kind and the two zeros: bytes 3 to 15.
+pub const BODY_BYTES: usize = 13;
+
+// The method and the number of rows.
 pub struct Settings {
     pub method: u8,
     pub rows: u16,
@@ -12,30 +25,33 @@ pub struct Settings {
 pub fn valid(s: Settings) -> bool
     ensures { λ r. ⌜ r ≡ valid-of s ⌝ }
 {
-    if s.method == 3 {
+    if s.method == ROW_TABLE {
         if s.rows < 1 {
             return false;
         }
-        return s.rows <= 4096;
+        return s.rows <= MOST_ROWS;
     }
     if s.rows != 0 {
         return false;
     }
-    if s.method == 1 {
+    if s.method == HRW {
         return true;
     }
-    s.method == 2
+    s.method == RING
 }
 
 // The settings of a fresh start.
 pub fn fresh() -> Settings
     ensures { λ r. ⌜ r ≡ fresh-of ⌝ }
 {
-    Settings { method: 1, rows: 0 }
+    Settings {
+        method: HRW,
+        rows: 0,
+    }
 }
 
 // The settings that configure's bytes 3 to 15 name.
-pub fn named(body: [u8; 13]) -> Settings
+pub fn named(body: [u8; BODY_BYTES]) -> Settings
     ensures { λ r. ⌜ r ≡ named-of body ⌝ }
 {
     Settings {
@@ -45,7 +61,7 @@ pub fn named(body: [u8; 13]) -> Settings
 }
 
 // Whether configure's bytes 3 to 15 are well formed: zero filler, valid settings.
-pub fn well_formed(body: [u8; 13]) -> bool
+pub fn well_formed(body: [u8; BODY_BYTES]) -> bool
     ensures { λ r. ⌜ r ≡ wellFormed body ⌝ }
 {
     if !spans::all_zero(&body[3..]) {

@@ -1,15 +1,17 @@
--- No second answer satisfies a promise of this crate: the reply, or the lent span afterwards, is given as an equation.
-use Prim.Native.Nat.{ℕ}
+-- No second answer keeps the promise of a public function of this crate. `Learnt` is what a caller learns from the function's contract;
+-- of a lent span, what it holds afterwards is the answer.
 use mathlib.Core.Bool.{Bool}
-use mathlib.Core.List.{List}
 use mathlib.Core.Path.{_≡_}
-use Rattle.spans.specs.Spans.{allZero, zeroed, closed}
+use denote.Ref.{now}
+use Rattle.spans.proofs.all_zero.Reads.{Learnt as all-zero-promise}
+use Rattle.spans.proofs.clear.Reads.{Learnt as clear-promise}
+use Rattle.spans.proofs.close.Reads.{Learnt as close-promise}
 
-pub all-zero-unique : (s : List ℕ) (x y : Bool) → x ≡ allZero s → y ≡ allZero s → x ≡ y
-all-zero-unique s x y p q = cc
+pub all-zero-unique : (κs : _) (a : _) (x y : Bool) (e e′ : _) → all-zero-promise κs a x e → all-zero-promise κs a y e′ → x ≡ y
+all-zero-unique κs a x y e e′ p q = cc
 
-pub clear-unique : (s after after′ : List ℕ) → after ≡ zeroed s → after′ ≡ zeroed s → after ≡ after′
-clear-unique s after after′ p q = cc
+pub clear-unique : (κs : _) (a : _) (x y : _) (e e′ : _) → clear-promise κs a x e → clear-promise κs a y e′ → now (e .0) ≡ now (e′ .0)
+clear-unique κs a x y e e′ p q = cc
 
-pub close-unique : (k : ℕ) (s after after′ : List ℕ) → after ≡ closed k s → after′ ≡ closed k s → after ≡ after′
-close-unique k s after after′ p q = cc
+pub close-unique : (κs : _) (a : _) (x y : _) (e e′ : _) → close-promise κs a x e → close-promise κs a y e′ → now (e .0) ≡ now (e′ .0)
+close-unique κs a x y e e′ p q = cc

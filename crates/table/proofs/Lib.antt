@@ -7,4 +7,5 @@ pub mod Removals
 pub mod Records
 pub mod Finds
 pub mod Stray
+pub mod InBytes
 pub mod Unique

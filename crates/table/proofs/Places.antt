@@ -8,7 +8,7 @@ use native.Mathlib.Numerals.{add-one}
 use native.Mathlib.Omega.{arith}
 use lib.ListN.{length, getD, take, drop, drop-of-length-le, List·getD-eq-default}
 use lib.Seq.{drop-cons, drop-drop, getD-take, getD-drop, take-take}
-use Rattle.bigendian.specs.BigEndian.{number4}
+use Rattle.bigendian.specs.BigEndian.{number4At}
 use Rattle.spans.specs.Spans.{same}
 use Rattle.table.specs.Table.{keyOf, usedTag, firstRecords, recordsOf, usedAmong, room, Finding, findAmong, serverAt}
 
@@ -93,11 +93,11 @@ unfolding serverAt
 server-out t zero h = refl
 server-out t (suc i) h = rw (List·getD-eq-default (recordsOf t) [] {n = i} (omega (arith, length-records t)))
 
-pub server-in : (t : List ℕ) (place a : ℕ) → (place ≡ 0 → ⊥) → place ≤ room t → a ≡ (place - 1) * 20
-    → number4 (getD t (a + 16) 0) (getD t (a + 17) 0) (getD t (a + 18) 0) (getD t (a + 19) 0) ≡ serverAt place t
+pub server-in : (t : List ℕ) (place a : ℕ) → (place ≡ 0 → ⊥) → place ≤ room t → a ≡ (place - 1) * 20 + 16 → number4At t a ≡ serverAt place t
 unfolding serverAt
 server-in t zero a n h e = absurd (n refl)
 server-in t (suc i) a n h e =
-    let q : a ≡ i * 20 = e ∙ omega arith in
     let at : (j : ℕ) → j < 20 → getD (getD (recordsOf t) i []) j 0 ≡ getD t (i * 20 + j) 0 = record-byte t i (omega arith) in
-    rw (q, at 16 (omega arith), at 17 (omega arith), at 18 (omega arith), at 19 (omega arith))
+    let q : a ≡ i * 20 + 16 = omega arith in
+    let up : (j : ℕ) → a + j ≡ i * 20 + (16 + j) = λ j. omega arith in
+    rw (up 1, up 2, up 3, q, at 16 (omega arith), at 17 (omega arith), at 18 (omega arith), at 19 (omega arith))

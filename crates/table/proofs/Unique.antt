@@ -1,38 +1,44 @@
--- No second answer fits what a public function promises: two that keep the promise are equal. Where a table is lent, the answer is the
--- table afterwards.
+-- No second answer keeps the promise of a public function of this crate. `Learnt` is what a caller learns from the function's contract;
+-- of a lent table, what it holds afterwards is the answer.
 use Prim.Native.Nat.{ℕ}
-use mathlib.Core.List.{List}
 use mathlib.Core.Path.{_≡_, refl, sym, ap, _∙_}
+use denote.Ref.{now}
 use Rattle.sets.proofs.Cases.{clash}
 use Rattle.table.specs.declared.Found.{Found}
 use Rattle.table.specs.declared.Found.the-variants.{At, Nothing}
-use Rattle.table.specs.Table.{used, Finding, find, findingOf, serverAt, writtenAfter, removed, removedServer, started}
+use Rattle.table.specs.Table.{Finding, findingOf}
+use Rattle.table.proofs.used.Reads.{Learnt as used-promise}
+use Rattle.table.proofs.find.Reads.{Learnt as find-promise}
+use Rattle.table.proofs.server_at.Reads.{Learnt as server-at-promise}
+use Rattle.table.proofs.write_after.Reads.{Learnt as write-after-promise}
+use Rattle.table.proofs.remove.Reads.{Learnt as remove-promise}
+use Rattle.table.proofs.remove_server.Reads.{Learnt as remove-server-promise}
+use Rattle.table.proofs.start.Reads.{Learnt as start-promise}
 
--- `told` tells any two answers apart
+-- `findingOf` tells any two answers apart
 pub told-apart : (x y : Found) → findingOf x ≡ findingOf y → x ≡ y
 told-apart (At m) (At n) e = ap At (ap (λ (f : Finding). f .reads) e)
 told-apart (At m) (Nothing n) e = clash refl (ap (λ (f : Finding). f .found) e)
 told-apart (Nothing m) (At n) e = clash (ap (λ (f : Finding). f .found) e) refl
 told-apart (Nothing m) (Nothing n) e = ap Nothing (ap (λ (f : Finding). f .reads) e)
 
-module _ (t : List ℕ) where
-  pub used-unique : (x y : ℕ) → x ≡ used t → y ≡ used t → x ≡ y
-  used-unique x y p q = p ∙ sym q
+pub used-unique : (κs : _) (a : _) (x y : ℕ) (e e′ : _) → used-promise κs a x e → used-promise κs a y e′ → x ≡ y
+used-unique κs a x y e e′ p q = cc
 
-  pub find-unique : (key : List ℕ) (x y : Found) → findingOf x ≡ find key t → findingOf y ≡ find key t → x ≡ y
-  find-unique key x y p q = told-apart x y (p ∙ sym q)
+pub find-unique : (κs : _) (a : _) (x y : Found) (e e′ : _) → find-promise κs a x e → find-promise κs a y e′ → x ≡ y
+find-unique κs a x y e e′ p q = told-apart x y (p ∙ sym q)
 
-  pub server-at-unique : (place x y : ℕ) → x ≡ serverAt place t → y ≡ serverAt place t → x ≡ y
-  server-at-unique place x y p q = p ∙ sym q
+pub server-at-unique : (κs : _) (a : _) (x y : ℕ) (e e′ : _) → server-at-promise κs a x e → server-at-promise κs a y e′ → x ≡ y
+server-at-unique κs a x y e e′ p q = cc
 
-  pub write-after-unique : (n : ℕ) (key : List ℕ) (server : ℕ) (x y : List ℕ) → x ≡ writtenAfter n key server t → y ≡ writtenAfter n key server t → x ≡ y
-  write-after-unique n key server x y p q = p ∙ sym q
+pub write-after-unique : (κs : _) (a : _) (x y : _) (e e′ : _) → write-after-promise κs a x e → write-after-promise κs a y e′ → now (e .0) ≡ now (e′ .0)
+write-after-unique κs a x y e e′ p q = cc
 
-  pub remove-unique : (place : ℕ) (x y : List ℕ) → x ≡ removed place t → y ≡ removed place t → x ≡ y
-  remove-unique place x y p q = p ∙ sym q
+pub remove-unique : (κs : _) (a : _) (x y : _) (e e′ : _) → remove-promise κs a x e → remove-promise κs a y e′ → now (e .0) ≡ now (e′ .0)
+remove-unique κs a x y e e′ p q = cc
 
-  pub remove-server-unique : (server : ℕ) (x y : List ℕ) → x ≡ removedServer server t → y ≡ removedServer server t → x ≡ y
-  remove-server-unique server x y p q = p ∙ sym q
+pub remove-server-unique : (κs : _) (a : _) (x y : _) (e e′ : _) → remove-server-promise κs a x e → remove-server-promise κs a y e′ → now (e .0) ≡ now (e′ .0)
+remove-server-unique κs a x y e e′ p q = cc
 
-  pub start-unique : (x y : List ℕ) → x ≡ started t → y ≡ started t → x ≡ y
-  start-unique x y p q = p ∙ sym q
+pub start-unique : (κs : _) (a : _) (x y : _) (e e′ : _) → start-promise κs a x e → start-promise κs a y e′ → now (e .0) ≡ now (e′ .0)
+start-unique κs a x y e e′ p q = cc

@@ -10,27 +10,48 @@ use Rattle.spans.specs.Spans.{same, zeroed}
 use Rattle.table.specs.declared.Found.{Found}
 use Rattle.table.specs.declared.Found.the-variants.{At, Nothing}
 
--- the parts of a record's 20 bytes
+-- the sizes of a record and of its key, and where its tag and its server stand, counted from 0
+abbrev pub recordBytes : ℕ
+recordBytes = 20
+
+abbrev pub keyBytes : ℕ
+keyBytes = 13
+
+abbrev pub tagOffset : ℕ
+tagOffset = 13
+
+abbrev pub serverOffset : ℕ
+serverOffset = 16
+
+-- the tag of a new record: "tag 1"
+abbrev pub newTag : ℕ
+newTag = 1
+
+-- refusal 9: "table length 0, above 65,520 or not a multiple of 20"
+abbrev pub mostTableBytes : ℕ
+mostTableBytes = 65520
+
+-- the parts of a record
 abbrev pub keyOf : List ℕ → List ℕ
-keyOf r = take 13 r
+keyOf r = take keyBytes r
 
 abbrev pub tagOf : List ℕ → ℕ
-tagOf r = getD r 13 0
+tagOf r = getD r tagOffset 0
 
 abbrev pub serverOf : List ℕ → ℕ
-serverOf r = number4At r 16
+serverOf r = number4At r serverOffset
 
 -- the tags that make a record used
 unfoldable pub usedTag : ℕ → Bool
-usedTag tag = eqb tag 1
+usedTag tag = eqb tag newTag
 
 -- the first n records of a table, and all of them
 unfoldable pub firstRecords : ℕ → List ℕ → List (List ℕ)
 firstRecords zero t = []
-firstRecords (suc n) t = take 20 t ∷ firstRecords n (drop 20 t)
+firstRecords (suc n) t = take recordBytes t ∷ firstRecords n (drop recordBytes t)
 
 unfoldable pub recordsOf : List ℕ → List (List ℕ)
-recordsOf t = firstRecords (length t / 20) t
+recordsOf t = firstRecords (length t / recordBytes) t
 
 -- "The used part of a table is all records before the first whose tag is not 1."
 unfoldable pub usedAmong : List (List ℕ) → List (List ℕ)
@@ -45,7 +66,7 @@ abbrev pub used : List ℕ → ℕ
 used t = length (usedPart t)
 
 abbrev pub room : List ℕ → ℕ
-room t = length t / 20
+room t = length t / recordBytes
 
 -- whether a key has a record, and "the number of used records read: the place of the record counted from 1, or all records used .. when the key has none"
 pub record Finding : Type 0 where
@@ -78,11 +99,11 @@ bytesOf (r ∷ rs) = r ++ bytesOf rs
 
 -- a new record's bytes: "key 13, tag 1, two zero bytes, server 4 big-endian"
 abbrev pub newRecord : List ℕ → ℕ → List ℕ
-newRecord key s = key ++ (1 ∷ 0 ∷ 0 ∷ bytes4 s)
+newRecord key s = key ++ (newTag ∷ 0 ∷ 0 ∷ bytes4 s)
 
 -- a new record behind the first n; a table without such a place stays as it is
 unfoldable pub writtenAfter : ℕ → List ℕ → ℕ → List ℕ → List ℕ
-writtenAfter n key s t = cond (ltb n (room t)) (take (n * 20) t ++ (newRecord key s ++ drop ((n + 1) * 20) t)) t
+writtenAfter n key s t = cond (ltb n (room t)) (take (n * recordBytes) t ++ (newRecord key s ++ drop ((n + 1) * recordBytes) t)) t
 
 -- "A new record goes into the first unused place."; with every place used there is no room, and the table stays as it is
 abbrev pub appended : List ℕ → ℕ → List ℕ → List ℕ
@@ -90,7 +111,7 @@ appended key s t = writtenAfter (used t) key s t
 
 -- fewer records in the used part's place: what was used and is not any more is zeroed, and "later bytes stay"
 unfoldable pub packed : List (List ℕ) → List ℕ → List ℕ
-packed rs t = bytesOf rs ++ (replicate ((used t - length rs) * 20) 0 ++ drop (used t * 20) t)
+packed rs t = bytesOf rs ++ (replicate ((used t - length rs) * recordBytes) 0 ++ drop (used t * recordBytes) t)
 
 -- the list without its element at a place counted from 1
 unfoldable pub without : ℕ → List (List ℕ) → List (List ℕ)

@@ -7,7 +7,25 @@ ghost use lib.Seq.{paste};
 ghost use mathlib.Core.Bool.{false, cond};
 ghost use lib.Dec.{eqb};
 ghost use Rattle.words.specs.Words.{wordAt, BytesAt};
-ghost use Rattle.table.specs.Table.{usedTag, used as used-of, find as find-of, findingOf, serverAt, newRecord, writtenAfter, removed, removedServer, started};
+ghost use Rattle.table.specs.Table.{usedTag, used as used-of, find as find-of, findingOf, serverAt, newRecord, writtenAfter, removed, removedServer, started, recordBytes, keyBytes};
+
+// A tracking record's bytes: the key, the tag, two zeros, the server's four bytes.
+pub const RECORD_BYTES: usize = 20;
+
+// A key's bytes, the first of a record.
+pub const KEY_BYTES: usize = 13;
+
+// Where a record's tag stands, counted from 0.
+pub const TAG_OFFSET: usize = 13;
+
+// Where its server's four bytes begin.
+pub const SERVER_OFFSET: usize = 16;
+
+// The tag of a new record.
+pub const NEW_TAG: u8 = 1;
+
+// The longest table: 3,276 records.
+pub const MOST_TABLE_BYTES: usize = 65520;
 
 // Where a key's record is, or, where it has none, how many records are used: either way the number of used records read.
 pub enum Found {
@@ -19,20 +37,20 @@ pub enum Found {
 pub fn used(table: &[u8]) -> usize
     ensures { λ r. ⌜ r ≡ used-of (now (table .entry)) ⌝ }
 {
-    let room = table.len() / 20;
+    let room = table.len() / RECORD_BYTES;
     let mut i = 0;
     while i + 1 < room {
-        let at = i * 20 + 13;
+        let at = i * RECORD_BYTES + TAG_OFFSET;
         if !used_tag(table[at]) {
             return i;
         }
-        if !used_tag(table[at + 20]) {
+        if !used_tag(table[at + RECORD_BYTES]) {
             return i + 1;
         }
         i += 2;
     }
     if i < room {
-        if used_tag(table[i * 20 + 13]) {
+        if used_tag(table[i * RECORD_BYTES + TAG_OFFSET]) {
             return i + 1;
         }
     }
@@ -40,16 +58,16 @@ pub fn used(table: &[u8]) -> usize
 }
 
 // The first used record with a key.
-pub fn find(table: &[u8], key: [u8; 13]) -> Found
+pub fn find(table: &[u8], key: [u8; KEY_BYTES]) -> Found
     ensures { λ r. ⌜ findingOf r ≡ find-of key (now (table .entry)) ⌝ }
 {
     let front = word_at(&key, 0);
     let back = word_at(&key, 5);
-    let room = table.len() / 20;
+    let room = table.len() / RECORD_BYTES;
     let mut i = 0;
     while i < room {
-        let at = i * 20;
-        if !used_tag(table[at + 13]) {
+        let at = i * RECORD_BYTES;
+        if !used_tag(table[at + TAG_OFFSET]) {
             return Found::Nothing(i);
         }
         if has_words(table, at, front, back) {
@@ -67,28 +85,23 @@ pub fn server_at(table: &[u8], place: usize) -> u32
     if place == 0 {
         return 0;
     }
-    if table.len() / 20 < place {
+    if table.len() / RECORD_BYTES < place {
         return 0;
     }
-    let at = (place - 1) * 20;
-    bigendian::join4(
-        table[at + 16],
-        table[at + 17],
-        table[at + 18],
-        table[at + 19],
-    )
+    let at = (place - 1) * RECORD_BYTES + SERVER_OFFSET;
+    bigendian::join4(table[at], table[at + 1], table[at + 2], table[at + 3])
 }
 
 // Writes a new record behind the first n; where n is the number of used records, that is the first
 // unused place. A table without that place stays as it is.
-pub fn write_after(table: &mut [u8], n: usize, key: [u8; 13], server: u32)
+pub fn write_after(table: &mut [u8], n: usize, key: [u8; KEY_BYTES], server: u32)
     ensures { λ _. ⌜ now (table .exit) ≡ writtenAfter n key server (now (table .entry)) ⌝ }
 {
-    if table.len() / 20 <= n {
+    if table.len() / RECORD_BYTES <= n {
         return;
     }
-    let a = n * 20;
-    let e = a + 20;
+    let a = n * RECORD_BYTES;
+    let e = a + RECORD_BYTES;
     put(&mut table[a..e], key, server);
 }
 
@@ -120,8 +133,8 @@ pub fn remove_server(table: &mut [u8], server: u32)
         }
         i += 1;
     }
-    let a = kept * 20;
-    let e = n * 20;
+    let a = kept * RECORD_BYTES;
+    let e = n * RECORD_BYTES;
     spans::clear(&mut table[a..e]);
 }
 
@@ -136,60 +149,60 @@ pub fn start(table: &mut [u8])
 fn used_tag(tag: u8) -> bool
     ensures { λ r. ⌜ r ≡ usedTag tag ⌝ }
 {
-    tag == 1
+    tag == NEW_TAG
 }
 
 // Copies a key to the front of a span.
-fn put_key(s: &mut [u8], key: [u8; 13])
-    requires { ⌜ 13 ≤ length (now s) ⌝ }
-    ensures { λ _. ⌜ now (s .exit) ≡ key ++ drop 13 (now (s .entry)) ⌝ }
+fn put_key(s: &mut [u8], key: [u8; KEY_BYTES])
+    requires { ⌜ keyBytes ≤ length (now s) ⌝ }
+    ensures { λ _. ⌜ now (s .exit) ≡ key ++ drop keyBytes (now (s .entry)) ⌝ }
 {
     let mut i = 0;
-    while i < 13 {
+    while i < KEY_BYTES {
         s[i] = key[i];
         i += 1;
     }
 }
 
-// Fills a place with a new record: the key, tag 1, two zeros, the server's four bytes.
-fn put(s: &mut [u8], key: [u8; 13], server: u32)
-    requires { ⌜ length (now s) ≡ 20 ⌝ }
+// Fills a place with a new record: the key, its tag, two zeros, the server's four bytes.
+fn put(s: &mut [u8], key: [u8; KEY_BYTES], server: u32)
+    requires { ⌜ length (now s) ≡ recordBytes ⌝ }
     ensures { λ _. ⌜ now (s .exit) ≡ newRecord key server ⌝ }
 {
     let b = bigendian::split4(server);
     put_key(s, key);
-    s[13] = 1;
-    s[14] = 0;
-    s[15] = 0;
-    s[16] = b[0];
-    s[17] = b[1];
-    s[18] = b[2];
-    s[19] = b[3];
+    s[TAG_OFFSET] = NEW_TAG;
+    s[TAG_OFFSET + 1] = 0;
+    s[TAG_OFFSET + 2] = 0;
+    s[SERVER_OFFSET] = b[0];
+    s[SERVER_OFFSET + 1] = b[1];
+    s[SERVER_OFFSET + 2] = b[2];
+    s[SERVER_OFFSET + 3] = b[3];
 }
 
 // Takes the record with index i, counted from 0, out of the first n: those behind it move up, and the last place is zeroed.
 fn close_gap(table: &mut [u8], i: usize, n: usize)
-    requires { ⌜ (i < n) × (n * 20 ≤ length (now table)) ⌝ }
+    requires { ⌜ (i < n) × (n * recordBytes ≤ length (now table)) ⌝ }
     ensures { λ _. ⌜ now (table .exit)
-        ≡ take (i * 20) (now (table .entry)) ++ ((drop 20 (take (n * 20 - i * 20) (drop (i * 20) (now (table .entry)))) ++ replicate 20 0) ++ drop (n * 20) (now (table .entry))) ⌝ }
+        ≡ take (i * recordBytes) (now (table .entry)) ++ ((drop recordBytes (take (n * recordBytes - i * recordBytes) (drop (i * recordBytes) (now (table .entry)))) ++ replicate recordBytes 0) ++ drop (n * recordBytes) (now (table .entry))) ⌝ }
 {
-    let a = i * 20;
-    let e = n * 20;
-    spans::close(&mut table[a..e], 20);
+    let a = i * RECORD_BYTES;
+    let e = n * RECORD_BYTES;
+    spans::close(&mut table[a..e], RECORD_BYTES);
 }
 
 // Copies the record with index i, counted from 0, to index w, which is no later; one that stands there already stays.
 fn keep(table: &mut [u8], i: usize, w: usize)
-    requires { ⌜ (w ≤ i) × (i * 20 + 20 ≤ length (now table)) ⌝ }
-    ensures { λ _. ⌜ now (table .exit) ≡ paste (now (table .entry)) (w * 20) (drop (i * 20) (now (table .entry))) 20 ⌝ }
+    requires { ⌜ (w ≤ i) × (i * recordBytes + recordBytes ≤ length (now table)) ⌝ }
+    ensures { λ _. ⌜ now (table .exit) ≡ paste (now (table .entry)) (w * recordBytes) (drop (i * recordBytes) (now (table .entry))) recordBytes ⌝ }
 {
     if w == i {
         return;
     }
-    let from = i * 20;
-    let to = w * 20;
+    let from = i * RECORD_BYTES;
+    let to = w * RECORD_BYTES;
     let mut k = 0;
-    while k < 20 {
+    while k < RECORD_BYTES {
         table[to + k] = table[from + k];
         k += 1;
     }
@@ -215,7 +228,7 @@ fn word_at(s: &[u8], at: usize) -> u64
 // Whether the 13 bytes from a place on have these two words: their first eight bytes the one, their last eight the other.
 // The last are looked at first: the keys of one address differ there.
 fn has_words(table: &[u8], at: usize, front: u64, back: u64) -> bool
-    requires { ⌜ at + 13 ≤ length (now table) ⌝ }
+    requires { ⌜ at + keyBytes ≤ length (now table) ⌝ }
     ensures { λ r. ⌜ (r ≡ cond (eqb (wordAt (now (table .entry)) (at + 5)) back) (eqb (wordAt (now (table .entry)) at) front) false)
         × (BytesAt (now (table .entry)) at 8 × BytesAt (now (table .entry)) (at + 5) 8) ⌝ }
 {

@@ -1,7 +1,7 @@
--- No second answer satisfies the promise of this crate: it gives the answer as an equation.
+-- No second answer keeps the promise of the function of this crate. `Learnt` is what a caller learns from its contract.
 use Prim.Native.Nat.{ℕ}
 use mathlib.Core.Path.{_≡_}
-use Rattle.words.specs.Words.{number8}
+use Rattle.words.proofs.join8.Reads.{Learnt as join8-promise}
 
-pub join8-unique : (a b c d e f g h x y : ℕ) → x ≡ number8 a b c d e f g h → y ≡ number8 a b c d e f g h → x ≡ y
-join8-unique a b c d e f g h x y p q = cc
+pub join8-unique : (κs : _) (a : _) (x y : ℕ) (e e′ : _) → join8-promise κs a x e → join8-promise κs a y e′ → x ≡ y
+join8-unique κs a x y e e′ p q = cc

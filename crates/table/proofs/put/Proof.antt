@@ -2,8 +2,8 @@
 use mathlib.Core.Path.{_≡_}
 use native.Mathlib.Omega.{arith}
 use lib.ListN.{length, length-set}
-use borrow.Author.Needs.{needs}
 use Rattle.table.proofs.Moves.{filled}
+use borrow.Author.Needs.{needs}
 use Rattle.table.proofs.put.Statement.{statement}
 use Rattle.table.proofs.put.Tie as tie
 
@@ -19,8 +19,14 @@ put-key-requires c κs = search needs
 slice-write-s : tie.Need-slice-write-s
 slice-write-s c = search needs
 
+add-s : tie.Need-add-s
+add-s c = search needs
+
 slice-write-s-2 : tie.Need-slice-write-s-2
 slice-write-s-2 c = simp length-set (omega arith)
+
+add-s-2 : tie.Need-add-s-2
+add-s-2 c = search needs
 
 slice-write-s-3 : tie.Need-slice-write-s-3
 slice-write-s-3 c = simp length-set (omega arith)
@@ -34,17 +40,26 @@ slice-write-s-4 c = simp length-set (omega arith)
 array-read-s-2 : tie.Need-array-read-s-2
 array-read-s-2 c = search needs
 
+add-s-3 : tie.Need-add-s-3
+add-s-3 c = search needs
+
 slice-write-s-5 : tie.Need-slice-write-s-5
 slice-write-s-5 c = simp length-set (omega arith)
 
 array-read-s-3 : tie.Need-array-read-s-3
 array-read-s-3 c = search needs
 
+add-s-4 : tie.Need-add-s-4
+add-s-4 c = search needs
+
 slice-write-s-6 : tie.Need-slice-write-s-6
 slice-write-s-6 c = simp length-set (omega arith)
 
 array-read-s-4 : tie.Need-array-read-s-4
 array-read-s-4 c = search needs
+
+add-s-5 : tie.Need-add-s-5
+add-s-5 c = search needs
 
 slice-write-s-7 : tie.Need-slice-write-s-7
 slice-write-s-7 c = simp length-set (omega arith)
@@ -66,15 +81,20 @@ put-spec =
     split4-requires
     put-key-requires
     slice-write-s
+    add-s
     slice-write-s-2
+    add-s-2
     slice-write-s-3
     array-read-s
     slice-write-s-4
     array-read-s-2
+    add-s-3
     slice-write-s-5
     array-read-s-3
+    add-s-4
     slice-write-s-6
     array-read-s-4
+    add-s-5
     slice-write-s-7
     same-length
     returns)

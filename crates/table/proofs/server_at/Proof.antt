@@ -1,8 +1,8 @@
 -- `table::server_at` meets its contract, one case for each return.
 use mathlib.Core.Path.{refl, _∙_}
 use native.Mathlib.Omega.{arith}
-use borrow.Author.Needs.{needs}
 use Rattle.table.proofs.Places.{server-none, server-out, server-in}
+use borrow.Author.Needs.{needs}
 use Rattle.table.proofs.server_at.Statement.{statement}
 use Rattle.table.proofs.server_at.Tie as tie
 
@@ -22,26 +22,26 @@ sub-at c = search needs
 mul-at : tie.Need-mul-at
 mul-at c = search needs
 
-add-join4 : tie.Need-add-join4
-add-join4 c = search needs
+add-at : tie.Need-add-at
+add-at c = search needs
 
 shared-slice-read-join4 : tie.Need-shared-slice-read-join4
 shared-slice-read-join4 c = search needs
 
-add-join4-2 : tie.Need-add-join4-2
-add-join4-2 c = search needs
+add-join4 : tie.Need-add-join4
+add-join4 c = search needs
 
 shared-slice-read-join4-2 : tie.Need-shared-slice-read-join4-2
 shared-slice-read-join4-2 c = search needs
 
-add-join4-3 : tie.Need-add-join4-3
-add-join4-3 c = search needs
+add-join4-2 : tie.Need-add-join4-2
+add-join4-2 c = search needs
 
 shared-slice-read-join4-3 : tie.Need-shared-slice-read-join4-3
 shared-slice-read-join4-3 c = search needs
 
-add-join4-4 : tie.Need-add-join4-4
-add-join4-4 c = search needs
+add-join4-3 : tie.Need-add-join4-3
+add-join4-3 c = search needs
 
 shared-slice-read-join4-4 : tie.Need-shared-slice-read-join4-4
 shared-slice-read-join4-4 c = search needs
@@ -62,13 +62,13 @@ server-at-spec =
     returns-2
     sub-at
     mul-at
-    add-join4
+    add-at
     shared-slice-read-join4
-    add-join4-2
+    add-join4
     shared-slice-read-join4-2
-    add-join4-3
+    add-join4-2
     shared-slice-read-join4-3
-    add-join4-4
+    add-join4-3
     shared-slice-read-join4-4
     join4-requires
     returns-3)
