@@ -158,7 +158,7 @@ module _ (f : ℕ) (spot : Entry) (t rows flags : List ℕ) (r : Roster) (so : s
       (λ m. rw (s, m, second c v (ne-eqb (c .method) 1 n) m) (rw m at e))
 
   pub pick-hrw : (p : Pick) (ss xs : List ℕ) → Lent r ss xs → c .method ≡ 1
-      → p ≡ picked (hrw (f % 2 ^ 31)) (inState 1 ss xs) (inState 2 ss xs) → p ≡ pickBy f spot (stateWith t rows flags r)
+      → p ≡ picked (hrw (digest f)) (inState 1 ss xs) (inState 2 ss xs) → p ≡ pickBy f spot (stateWith t rows flags r)
   unfolding pickBy
   pick-hrw p ss xs l m e = rw (s, m, l .servers, l .states) e
 

@@ -11,8 +11,7 @@ use Rattle.hash.specs.Hash.{position}
 use Rattle.sets.specs.Sets.{member}
 use Rattle.sets.proofs.Cases.{both, clash, either, or-right, not-so}
 use Rattle.sets.proofs.Members.{member-head}
-use Rattle.ranking.specs.declared.Pick.{Pick}
-use Rattle.ranking.specs.Ranking.{Ranking, Strict, choice, outranked, unsafe, picked}
+use Rattle.ranking.specs.Ranking.{Ranking, Strict, choice, outranked, unsafe, pickOf, picked}
 use Rattle.ranking.specs.Methods.{ring}
 use Rattle.ranking.proofs.Instances.{ring-strict}
 use Rattle.ranking.proofs.Choice.{choice-member, choice-tops, choice-only, outranked-by, outranked-has}
@@ -99,7 +98,7 @@ module _ (working horizon held : List ℕ) (p s : ℕ) (hp : p < 2 ^ 32) (works 
     pub owner-gives : gives (entryOf working y) ≡ picked (ring p) working horizon
     owner-gives =
         let (a, b) = both (member y working) own standby in
-        λ i. record { server = a i; flag = (b ∙ sym (unsafe-outranked (ring p) S s working horizon works)) i }
+        λ i. pickOf (a i) ((b ∙ sym (unsafe-outranked (ring p) S s working horizon works)) i)
 
   -- THE RING'S CORRECTNESS
   pub ring-reads : (old : List Entry) → gives (entryRead (length held) p (drawn held working old)) ≡ picked (ring p) working horizon
