@@ -13,10 +13,10 @@ use Rattle.sets.specs.Sets.{member, inState}
 use Rattle.ring.specs.declared.Entry.{Entry}
 use Rattle.ring.specs.Ring.{blank, overlaid}
 use Rattle.ringplan.specs.Plan.{placed, arranged, entryOf, entries, drawn, planned}
-use Rattle.ringplan.specs.Keys.{keyOf, keyServer, keyPlaced, Rising, keySought, keyAway, keyEntry}
+use Rattle.ringplan.specs.Keys.{Fit, keyOf, keyPlaced, Rising}
 use Rattle.ringplan.proofs.Order.{length-arranged}
 use Rattle.ringplan.proofs.Placing.{rising-placed}
-use Rattle.ringplan.proofs.Keys.{Fit, fit-all, fit-at, fit-in-state, fit-arranged, getD-map, placed-keys, entry-keys}
+use Rattle.ringplan.proofs.Keys.{fit-all, fit-at, fit-in-state, fit-arranged, getD-map, placed-keys, entry-arranged}
 use Rattle.ringplan.proofs.Reading.{length-entries}
 
 -- keys put in order don't fall
@@ -70,33 +70,6 @@ arranging-done servers order n i end a =
     let e : i ≡ 0 = omega arith in
     let q : n ≡ length servers = omega (arith, a .counted) in
     rw (e, q) at (a .so)
-
-abbrev entry : ℕ → ℕ → ℕ → Entry
-entry q s t = record { position = q; server = s; track = t }
-
--- the entry of a key, by the ways of the code
-module _ (ws : List ℕ) (k : ℕ) where
-  pub entry-own : (v : ℕ) → v ≡ keyServer k → member k ws ≡ true → record { position = k / 2 ^ 32; server = v; track = 0 } ≡ keyEntry ws k
-  unfolding keyEntry
-  entry-own v e t = rw (t, e)
-
-  pub entry-none : member k ws ≡ false → length ws ≡ 0 → record { position = k / 2 ^ 32; server = 0; track = 0 } ≡ keyEntry ws k
-  unfolding keyEntry keyAway
-  entry-none t z = rw t (none ws z)
-    where
-      none : (l : List ℕ) → length l ≡ 0 → entry (k / 2 ^ 32) 0 0 ≡ keyAway l k
-      none [] e = refl
-      none (x ∷ l) e = absurd (omega arith)
-
-  pub entry-next : (n v : ℕ) → n ≡ keySought (k / 2 ^ 32 * 2 ^ 32) ws (getD ws 0 0) → v ≡ keyServer n → member k ws ≡ false → (length ws ≡ 0 → ⊥)
-      → record { position = k / 2 ^ 32; server = v; track = 1 } ≡ keyEntry ws k
-  unfolding keyEntry keyAway
-  entry-next n v en ev t z = rw (t, ev, en) (next ws z)
-    where
-      next : (l : List ℕ) → (length l ≡ 0 → ⊥)
-          → entry (k / 2 ^ 32) (keyServer (keySought (k / 2 ^ 32 * 2 ^ 32) l (getD l 0 0))) 1 ≡ keyAway l k
-      next [] e = absurd (e refl)
-      next (x ∷ l) e = refl
 
 -- all is ready to lay entries out: the servers' keys in order, and those of the working ones, of which there are m
 pub record Ready (held working order keys : List ℕ) (m : ℕ) : Type 0 where
@@ -153,21 +126,22 @@ module _ (f : ℕ → Entry) where
       ∙ sym (append-snoc (map f (take i order)) (f (getD order i 0)) (replicate (m - (i + 1)) b)))
 
 -- the entry is worked out from a key of the order and from the keys of the working servers
-pub laid-more : (held working order keys : List ℕ) (m : ℕ) (plan : List Entry) (i : ℕ) → i < length held → Ready held working order keys m
-    → LaidOut held working plan i → LaidOut held working (set plan i (keyEntry (take m keys) (getD order i 0))) (i + 1)
-laid-more held working order keys m plan i here r a =
+pub laid-more : (held working order keys : List ℕ) (m : ℕ) (plan : List Entry) (i : ℕ) (e : Entry) → i < length held → Ready held working order keys m
+    → ((w : List ℕ) (s : ℕ) → Fit w → s < 2 ^ 32 → take m keys ≡ map keyOf w → getD order i 0 ≡ keyOf s → e ≡ entryOf w s)
+    → LaidOut held working plan i → LaidOut held working (set plan i e) (i + 1)
+laid-more held working order keys m plan i e here r says a =
     let small = r .small in
-    let o = r .in-order in
     let x = getD (arranged held) i 0 in
     let within : i < length (arranged held) = omega (arith, length-arranged held) in
     let k : getD order i 0 ≡ keyOf x =
-    sym (getD-take (length held) order i 0 here) ∙ ap (λ (l : List ℕ). getD l i 0) o ∙ getD-map keyOf (arranged held) i within in
-    let e : keyEntry (take m keys) (getD order i 0) ≡ entryOf working x =
-    rw (r .working-keys, k) (entry-keys working x (fit-at (arranged held) i within (fit-arranged held (r .fits))) (r .working-fits)) in
+    sym (getD-take (length held) order i 0 here) ∙ ap (λ (l : List ℕ). getD l i 0) (r .in-order) ∙ getD-map keyOf (arranged held) i within in
+    let q : e ≡ entryOf working x =
+    says (arranged working) x (fit-arranged working (r .working-fits)) (fit-at (arranged held) i within (fit-arranged held (r .fits))) (r .working-keys) k
+    ∙ entry-arranged working x in
     record {
       within = omega arith;
       so =
-          ap (set plan i) e
+          ap (set plan i) q
           ∙ ap (λ (p : List Entry). set p i (entryOf working x)) (a .so)
           ∙ laid-one (entryOf working) (arranged held) blank 64 i within (omega arith);
     }

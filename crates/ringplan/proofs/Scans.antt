@@ -5,13 +5,11 @@ use mathlib.Core.List.{List, [], _∷_, _++_, append-nil}
 use mathlib.Core.Path.{_≡_, refl, sym, ap, _∙_}
 use native.Mathlib.Numerals.{add-one}
 use native.Mathlib.Omega.{arith}
-use lib.Dec.{eqb, leb}
 use lib.ListN.{length, getD, take, drop, set, length-set, drop-of-length-le}
 use lib.Seq.{drop-cons, take-suc-set, append-snoc}
-use borrow.Author.Tests.{eq-eqb, ne-eqb, le-leb, lt-leb}
+use borrow.Author.Tests.{eq-eqb, ne-eqb}
 use Rattle.sets.specs.Sets.{member, inState}
 use Rattle.sets.proofs.States.{inState-here, inState-other, inState-end, inState-short}
-use Rattle.ringplan.specs.Keys.{keySought}
 
 -- whether a key is among others
 module _ (k : ℕ) (l : List ℕ) (i : ℕ) (W : Bool) (so : member k (drop i l) ≡ W) where
@@ -23,22 +21,6 @@ module _ (k : ℕ) (l : List ℕ) (i : ℕ) (W : Bool) (so : member k (drop i l)
 
   pub among-end : length l ≤ i → false ≡ W
   among-end h = rw (drop-of-length-le l {i = i} h) at so
-
--- the first key that isn't below a bound
-module _ (bound d : ℕ) (l : List ℕ) (i W : ℕ) (so : keySought bound (drop i l) d ≡ W) where
-  sought-step : i < length l → keySought bound (drop i l) d ≡ cond (leb bound (getD l i 0)) (getD l i 0) (keySought bound (drop (i + 1) l) d)
-  unfolding keySought
-  sought-step h = rw (add-one, drop-cons l i 0 h)
-
-  pub sought-here : i < length l → bound ≤ getD l i 0 → getD l i 0 ≡ W
-  sought-here h e = rw (sought-step h, le-leb bound (getD l i 0) e) at so
-
-  pub sought-more : i < length l → getD l i 0 < bound → keySought bound (drop (i + 1) l) d ≡ W
-  sought-more h e = rw (sought-step h, lt-leb bound (getD l i 0) e) at so
-
-  pub sought-end : length l ≤ i → d ≡ W
-  unfolding keySought
-  sought-end h = rw (drop-of-length-le l {i = i} h) at so
 
 -- the working ones of the first i servers stand in the first n places of a list
 pub record Collecting (ss xs list : List ℕ) (n i : ℕ) : Type 0 where

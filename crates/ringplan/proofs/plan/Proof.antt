@@ -84,7 +84,7 @@ loop-again c =
     let a = a2 .before in
     let w = a .before .before .before in
     let p = w .before .before .before .before .before .args in
-    (l .loop .inv .0, (search needs, rw (c .entry-for .ensures) (laid-more (p .servers .now) (inState 1 (p .servers .now) (p .states .now)) (a2 .arrange2 .result) (a .arrange .result) (w .working .result .held) (l .loop .plan) (l .loop .i) (omega arith) (l .loop .inv .0) (l .loop .inv .1 .1))))
+    (l .loop .inv .0, (search needs, laid-more (p .servers .now) (inState 1 (p .servers .now) (p .states .now)) (a2 .arrange2 .result) (a .arrange .result) (w .working .result .held) (l .loop .plan) (l .loop .i) (c .entry-for .result) (omega arith) (l .loop .inv .0) (c .entry-for .ensures) (l .loop .inv .1 .1)))
 
 returns-2 : tie.Need-returns-2 Inv-loop μ-loop
 returns-2 c =
