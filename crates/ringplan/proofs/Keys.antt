@@ -18,13 +18,10 @@ use Rattle.ranking.specs.declared.Best.{Best}
 use Rattle.ranking.specs.Best.{noneYet, kept, bestOf}
 use Rattle.ranking.specs.Ranking.{choice}
 use Rattle.ranking.specs.Methods.{nearer, ring}
-use Rattle.ranking.proofs.Instances.{ring-strict}
-use Rattle.ranking.proofs.Choice.{choice-set}
 use Rattle.ranking.proofs.Scan.{keptAll, keptAll-best}
 use Rattle.ring.specs.declared.Entry.{Entry}
 use Rattle.ringplan.specs.Plan.{standsBefore, placed, arranged, some, entryOf}
 use Rattle.ringplan.specs.Keys.{Fit, keyOf, keyPosition, keyServer, keyPlaced}
-use Rattle.ringplan.proofs.Order.{member-arranged, length-arranged}
 
 pub fit-all : (l : List ℕ) → ((i : ℕ) → getD l i 0 < 2 ^ 32) → Fit l
 fit-all [] h = tt
@@ -161,17 +158,3 @@ module _ (w : List ℕ) (s : ℕ) (f : Fit w) (h : s < 2 ^ 32) where
           ≡ entry (position s) (choice (ring (position s)) v) (cond (some v) 1 0)
       names [] = refl
       names (y ∷ v) = refl
-
--- which order the working servers come in doesn't matter
-pub entry-arranged : (w : List ℕ) (s : ℕ) → entryOf (arranged w) s ≡ entryOf w s
-unfolding arranged
-entry-arranged w s =
-    rw (member-arranged s w, choice-set (ring (position s)) (ring-strict (position s)) (arranged w) w (λ y. member-arranged y w), some-arranged w)
-  where
-    some-arranged : (v : List ℕ) → some (arranged v) ≡ some v
-    some-arranged [] = refl
-    some-arranged (y ∷ v) = both (some (arranged (y ∷ v))) (λ t. t) (λ t. absurd (filled (arranged (y ∷ v)) t (length-arranged (y ∷ v))))
-      where
-        filled : (l : List ℕ) → some l ≡ false → length l ≡ length (y ∷ v) → ⊥
-        filled [] t e = omega arith
-        filled (x ∷ l) t e = clash refl t

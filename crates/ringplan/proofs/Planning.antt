@@ -16,7 +16,7 @@ use Rattle.ringplan.specs.Plan.{placed, arranged, entryOf, entries, draw
 use Rattle.ringplan.specs.Keys.{Fit, keyOf, keyPlaced, Rising}
 use Rattle.ringplan.proofs.Order.{length-arranged}
 use Rattle.ringplan.proofs.Placing.{rising-placed}
-use Rattle.ringplan.proofs.Keys.{fit-all, fit-at, fit-in-state, fit-arranged, getD-map, placed-keys, entry-arranged}
+use Rattle.ringplan.proofs.Keys.{fit-all, fit-at, fit-in-state, fit-arranged, getD-map, placed-keys}
 use Rattle.ringplan.proofs.Reading.{length-entries}
 
 -- keys put in order don't fall
@@ -80,14 +80,12 @@ pub record Ready (held working order keys : List ℕ) (m : ℕ) : Type 0 where
   pub keys-sized : length keys ≡ 64
   pub few : m ≤ 64
   pub in-order : take (length held) order ≡ map keyOf (arranged held)
-  pub working-keys : take m keys ≡ map keyOf (arranged working)
+  pub working-keys : take m keys ≡ map keyOf working
 
-pub ready : (held states at-work order keys : List ℕ) (m : ℕ) → length held ≤ 64 → ((j : ℕ) → getD held j 0 < 2 ^ 32)
-    → length order ≡ 64 → length keys ≡ 64 → length at-work ≡ 64 → m ≤ 64 → take m at-work ≡ inState 1 held states
-    → take (length held) order ≡ map keyOf (arranged held) → take (length (take m at-work)) keys ≡ map keyOf (arranged (take m at-work))
-    → Ready held (inState 1 held states) order keys m
-ready held states at-work order keys m small fit so sk sw few w o k =
-    let l : length (take m at-work) ≡ m = length-take-le m at-work (omega arith) in
+pub ready : (held states order keys : List ℕ) (m : ℕ) → length held ≤ 64 → ((j : ℕ) → getD held j 0 < 2 ^ 32)
+    → length order ≡ 64 → length keys ≡ 64 → m ≤ 64 → take m keys ≡ map keyOf (inState 1 held states)
+    → take (length held) order ≡ map keyOf (arranged held) → Ready held (inState 1 held states) order keys m
+ready held states order keys m small fit so sk few k o =
     record {
       small = small;
       fits = fit-all held fit;
@@ -96,7 +94,7 @@ ready held states at-work order keys m small fit so sk sw few w o k =
       keys-sized = sk;
       few = few;
       in-order = o;
-      working-keys = (rw (l, w) at k);
+      working-keys = k;
     }
 
 -- the first i entries are laid out, and the places behind them are blank
@@ -136,8 +134,7 @@ laid-more held working order keys m plan i e here r says a =
     let k : getD order i 0 ≡ keyOf x =
     sym (getD-take (length held) order i 0 here) ∙ ap (λ (l : List ℕ). getD l i 0) (r .in-order) ∙ getD-map keyOf (arranged held) i within in
     let q : e ≡ entryOf working x =
-    says (arranged working) x (fit-arranged working (r .working-fits)) (fit-at (arranged held) i within (fit-arranged held (r .fits))) (r .working-keys) k
-    ∙ entry-arranged working x in
+    says working x (r .working-fits) (fit-at (arranged held) i within (fit-arranged held (r .fits))) (r .working-keys) k in
     record {
       within = omega arith;
       so =

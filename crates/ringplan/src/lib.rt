@@ -54,36 +54,36 @@ fn arrange(servers: &[u32]) -> [u64; 64]
     order
 }
 
-// The servers at work: the first `held` of 64 places.
+// The keys of the working servers: the first `held` of 64 places.
 struct AtWork {
-    servers: [u32; 64],
+    keys: [u64; 64],
     held: usize,
 }
 
-// The working ones of at most 64 servers.
+// The keys of the working ones of at most 64 servers.
 fn working(servers: &[u32], states: &[u8]) -> AtWork
     requires { ⌜ length (now servers) ≤ 64 ⌝ }
-    ensures { λ r. ⌜ (r .held ≤ 64) × ((length (r .servers) ≡ 64)
-        × (take (r .held) (r .servers) ≡ inState 1 (now (servers .entry)) (now (states .entry)))) ⌝ }
+    ensures { λ r. ⌜ (r .held ≤ 64) × ((length (r .keys) ≡ 64)
+        × (take (r .held) (r .keys) ≡ map keyOf (inState 1 (now (servers .entry)) (now (states .entry))))) ⌝ }
 {
-    let mut list = [0u32; 64];
+    let mut keys = [0u64; 64];
     let mut n = 0;
     let mut i = 0;
     while i < servers.len() {
         if states.len() <= i {
             return AtWork {
-                servers: list,
+                keys: keys,
                 held: n,
             };
         }
         if states[i] == 1 {
-            list[n] = servers[i];
+            keys[n] = key(servers[i]);
             n += 1;
         }
         i += 1;
     }
     AtWork {
-        servers: list,
+        keys: keys,
         held: n,
     }
 }
@@ -174,8 +174,7 @@ pub fn plan(servers: &[u32], states: &[u8]) -> [Entry; 64]
     }
     let at_work = working(servers, states);
     let held = at_work.held;
-    let at_work = at_work.servers;
-    let keys = arrange(&at_work[..held]);
+    let keys = at_work.keys;
     let order = arrange(servers);
     let mut i = 0;
     while i < servers.len() {
