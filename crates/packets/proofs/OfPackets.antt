@@ -1,11 +1,12 @@
 -- What the rules come to for a packet that meets a sound roster, by the tests that the code makes.
-use Prim.Native.Nat.{ℕ, _/_, _%_, _^_, _≤_, _<_}
+use Prim.Native.Nat.{ℕ, _/_, _≤_, _<_}
 use mathlib.Core.Bool.{Bool, true, false, not, cond}
 use mathlib.Core.List.{List, [], _∷_}
 use mathlib.Core.Path.{_≡_, refl, sym, subst, _∙_}
 use lib.Dec.{eqb, leb}
 use lib.ListN.{length}
 use borrow.Author.Tests.{eq-eqb, ne-eqb, lt-ltb, le-ltb, eqb-true}
+use Rattle.hash.specs.Hash.{digest}
 use Rattle.sets.specs.Sets.{member, inState}
 use Rattle.sets.proofs.Cases.{both, clash}
 use Rattle.sets.proofs.Members.{member-head}
