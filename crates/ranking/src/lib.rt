@@ -19,7 +19,7 @@ pub fn nearer(distance_a: u32, a: u32, distance_b: u32, b: u32) -> bool
     ensures { λ r. ⌜ r ≡ nearer-of «distance_a» a «distance_b» b ⌝ }
 {
     if distance_a == distance_b {
-        return b < a;
+        return a > b;
     }
     distance_a < distance_b
 }
