@@ -1,6 +1,6 @@
 -- No second answer satisfies a promise of this crate: what a caller learns from each contract settles the answer.
 use mathlib.Core.Bool.{Bool}
-use mathlib.Core.Path.{_≡_, sym, _∙_}
+use mathlib.Core.Path.{_≡_}
 use Rattle.ranking.specs.declared.Best.{Best}
 use Rattle.ranking.proofs.heavier.Reads.{Learnt as heavier-promise}
 use Rattle.ranking.proofs.nearer.Reads.{Learnt as nearer-promise}

@@ -1,7 +1,7 @@
 -- Document 01, "Rows and ring": "The ring is a list of 64 places whose entries each hold a position, a server and a track flag": how a
 -- lent ring is read, and its first entries written. What the entries have to be is in the crate `ringplan`.
 use Prim.Native.Nat.{ℕ}
-use mathlib.Core.Bool.{Bool, true, false, cond, not}
+use mathlib.Core.Bool.{cond, not}
 use mathlib.Core.List.{List, [], _∷_, _++_}
 use lib.Dec.{eqb, leb}
 use lib.ListN.{length, getD, take, drop}

@@ -1,6 +1,6 @@
 -- Servers by their keys: the order of keys is the ring's order, and each server has its own key, from which its position and number are read back.
-use Prim.Native.Nat.{ℕ, zero, suc, _+_, _*_, _-_, _/_, _%_, _^_, _≤_, _<_}
-use mathlib.Core.Bool.{Bool, true, false, cond, _||_}
+use Prim.Native.Nat.{ℕ, zero, suc, _+_, _-_, _^_, _≤_, _<_}
+use mathlib.Core.Bool.{true, false, cond}
 use mathlib.Core.List.{List, [], _∷_, map}
 use mathlib.Core.Path.{_≡_, refl, sym, ap, _∙_}
 use native.Mathlib.Nat.{not-suc-le-zero, le-of-suc-le-suc}
@@ -13,7 +13,7 @@ use lib.Seq.{drop-cons}
 use borrow.Author.Tests.{eqb-true, eqb-false, eq-eqb, ne-eqb, ltb-true, ltb-false, lt-ltb, le-ltb}
 use Rattle.hash.specs.Hash.{position, distance}
 use Rattle.sets.specs.Sets.{member, inState}
-use Rattle.sets.proofs.Cases.{both, clash}
+use Rattle.sets.proofs.Cases.{both}
 use Rattle.ranking.specs.declared.Best.{Best}
 use Rattle.ranking.specs.Best.{noneYet, kept, bestOf}
 use Rattle.ranking.specs.Ranking.{choice}
@@ -22,6 +22,7 @@ use Rattle.ranking.proofs.Scan.{keptAll, keptAll-best}
 use Rattle.ring.specs.declared.Entry.{Entry}
 use Rattle.ringplan.specs.Plan.{standsBefore, placed, arranged, some, entryOf}
 use Rattle.ringplan.specs.Keys.{Fit, keyOf, keyPosition, keyServer, keyPlaced}
+use Rattle.ringplan.proofs.Clockwise.{from}
 
 pub fit-all : (l : List ℕ) → ((i : ℕ) → getD l i 0 < 2 ^ 32) → Fit l
 fit-all [] h = tt
@@ -112,10 +113,6 @@ key-same s x hs hx =
 member-keys : (s : ℕ) (l : List ℕ) → s < 2 ^ 32 → Fit l → member (keyOf s) (map keyOf l) ≡ member s l
 member-keys s [] h f = refl
 member-keys s (x ∷ l) h f = rw (key-same s x h (f .0), member-keys s l h (f .1))
-
--- the working servers' distances from a point
-abbrev from : ℕ → ℕ → ℕ
-from p s = distance (position s) p
 
 -- a loop over the working servers' keys that keeps the nearest: what is left from index i on decides the whole, and the ways on
 module _ (keys : List ℕ) (p : ℕ) (best : Best) (i : ℕ) where

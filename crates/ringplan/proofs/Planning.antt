@@ -1,15 +1,14 @@
 -- The order of all servers, built from the last one on, and the entries laid out in a plan.
-use Prim.Native.Nat.{ℕ, suc, _+_, _*_, _-_, _/_, _^_, _<_, _≤_}
-use mathlib.Core.Bool.{Bool, true, false, cond}
-use mathlib.Core.List.{List, [], _∷_, _++_, map, append-nil}
+use Prim.Native.Nat.{ℕ, suc, _+_, _-_, _^_, _<_, _≤_}
+use mathlib.Core.List.{List, [], _∷_, _++_, map}
 use mathlib.Core.Path.{_≡_, refl, sym, ap, _∙_}
 use native.Mathlib.Numerals.{add-one}
 use native.Mathlib.Omega.{arith}
 use lib.Dec.{leb}
-use lib.ListN.{length, getD, take, drop, set, replicate, length-map, length-set, length-replicate, length-append, drop-of-length-le}
+use lib.ListN.{length, getD, take, drop, set, replicate, length-map, drop-of-length-le}
 use lib.Seq.{drop-cons, take-suc, take-all, length-take-le, set-at, append-snoc, take-at, getD-drop, getD-take}
 use borrow.Author.Tests.{le-leb, lt-leb}
-use Rattle.sets.specs.Sets.{member, inState}
+use Rattle.sets.specs.Sets.{inState}
 use Rattle.ring.specs.declared.Entry.{Entry}
 use Rattle.ring.specs.Ring.{blank, overlaid}
 use Rattle.ringplan.specs.Plan.{placed, arranged, entryOf, entries, drawn, planned}

@@ -1,6 +1,6 @@
 -- Document 01, "Rows and ring": the rows are a lent list of numbers with flag bytes beside it.
 use Prim.Native.Nat.{ℕ, zero, suc, _%_, min}
-use mathlib.Core.Bool.{Bool, true, false, cond, not}
+use mathlib.Core.Bool.{false, cond, not}
 use mathlib.Core.List.{List, [], _∷_, _++_}
 use lib.Dec.{eqb}
 use lib.ListN.{length, getD, drop, replicate}
