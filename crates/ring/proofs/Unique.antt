@@ -15,7 +15,7 @@ use Rattle.ring.proofs.read as read
 use Rattle.ring.proofs.draw as draw
 
 module _ {M : Type 1} (𝓤 : URA M) (H : Heap 𝓤) (A : Atoms 𝓤) (mem : Memory → SProp 𝓤) (run : Routine → Fun 𝓤) where
-  -- what two facts give, one assertion gives of the other two
+  -- where two facts give a third, so do they as assertions
   follows : (P Q R : Type 0) → (P → Q → R) → ent 𝓤 (conj 𝓤 (fact 𝓤 P) (fact 𝓤 Q)) (fact 𝓤 R)
   follows P Q R f =
       fact-use 𝓤 P (conjL 𝓤 (fact 𝓤 P) (fact 𝓤 Q)) (λ p.
