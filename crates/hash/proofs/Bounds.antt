@@ -1,10 +1,10 @@
 -- Every hash fits its number of bits, and what a clockwise distance comes to on either side of the point.
-use Prim.Native.Nat.{ℕ, _+_, _*_, _-_, _%_, _^_, _≤_, _<_}
+use Prim.Native.Nat.{ℕ, _+_, _-_, _^_, _≤_, _<_}
 use mathlib.Core.List.{List, [], _∷_}
 use mathlib.Core.Path.{_≡_}
 use native.Mathlib.Omega.{arith}
 use lib.Dec.{lit<}
-use Rattle.hash.specs.Hash.{stir, stirAll, F, digest, weight, position, distance}
+use Rattle.hash.specs.Hash.{stir, stirAll, F, weight, position, distance}
 use Rattle.bigendian.specs.BigEndian.{bytes4}
 
 stirAll-fits : (h : ℕ) (bytes : List ℕ) → h < 2 ^ 32 → stirAll h bytes < 2 ^ 32

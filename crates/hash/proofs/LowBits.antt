@@ -1,7 +1,7 @@
 -- "Only the low 31 bits of any step matter": of the server, of the first product, of the digest and of the mixed number.
 use Prim.Native.Nat.{ℕ, _+_, _*_, _/_, _%_, _^_}
 use mathlib.Core.Path.{_≡_, sym, ap, _∙_}
-use native.Mathlib.Nat.{add-mul-mod-self-right, mod-mod}
+use native.Mathlib.Nat.{add-mul-mod-self-right}
 use native.Mathlib.Omega.{arith}
 use lib.Bits.{bitXor, xor-mod}
 use Rattle.hash.specs.Hash.{weight}

@@ -1,20 +1,23 @@
--- No second answer satisfies a promise of this crate: each gives the answer as an equation.
+-- No second answer satisfies a promise of this crate: what a caller learns from each contract settles the answer.
 use Prim.Native.Nat.{ℕ}
-use mathlib.Core.List.{List}
 use mathlib.Core.Path.{_≡_}
-use Rattle.hash.specs.Hash.{F, digest, weight, position, distance}
+use Rattle.hash.proofs.fnv.Reads.{Learnt as fnv-promise}
+use Rattle.hash.proofs.digest.Reads.{Learnt as digest-promise}
+use Rattle.hash.proofs.weight.Reads.{Learnt as weight-promise}
+use Rattle.hash.proofs.position.Reads.{Learnt as position-promise}
+use Rattle.hash.proofs.distance.Reads.{Learnt as distance-promise}
 
-pub fnv-unique : (bytes : List ℕ) (x y : ℕ) → x ≡ F bytes → y ≡ F bytes → x ≡ y
-fnv-unique bytes x y p q = cc
+pub fnv-unique : (κs : _) (a : _) (x y : ℕ) (e e′ : _) → fnv-promise κs a x e → fnv-promise κs a y e′ → x ≡ y
+fnv-unique κs a x y e e′ p q = cc
 
-pub digest-unique : (key : List ℕ) (x y : ℕ) → x ≡ digest key → y ≡ digest key → x ≡ y
-digest-unique key x y p q = cc
+pub digest-unique : (κs : _) (a : _) (x y : ℕ) (e e′ : _) → digest-promise κs a x e → digest-promise κs a y e′ → x ≡ y
+digest-unique κs a x y e e′ p q = cc
 
-pub weight-unique : (s d x y : ℕ) → x ≡ weight s d → y ≡ weight s d → x ≡ y
-weight-unique s d x y p q = cc
+pub weight-unique : (κs : _) (a : _) (x y : ℕ) (e e′ : _) → weight-promise κs a x e → weight-promise κs a y e′ → x ≡ y
+weight-unique κs a x y e e′ p q = cc
 
-pub position-unique : (s x y : ℕ) → x ≡ position s → y ≡ position s → x ≡ y
-position-unique s x y p q = cc
+pub position-unique : (κs : _) (a : _) (x y : ℕ) (e e′ : _) → position-promise κs a x e → position-promise κs a y e′ → x ≡ y
+position-unique κs a x y e e′ p q = cc
 
-pub distance-unique : (pos pt x y : ℕ) → x ≡ distance pos pt → y ≡ distance pos pt → x ≡ y
-distance-unique pos pt x y p q = cc
+pub distance-unique : (κs : _) (a : _) (x y : ℕ) (e e′ : _) → distance-promise κs a x e → distance-promise κs a y e′ → x ≡ y
+distance-unique κs a x y e e′ p q = cc

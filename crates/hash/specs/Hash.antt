@@ -16,9 +16,9 @@ stirAll h (byte ∷ bytes) = stirAll (stir h byte) bytes
 unfoldable pub F : List ℕ → ℕ
 F bytes = stirAll 2166136261 bytes
 
--- "Digest of a key: F(key) modulo 2^31."
-abbrev pub digest : List ℕ → ℕ
-digest key = F key % 2 ^ 31
+-- "Digest of a key: F(key) modulo 2^31.": f is F(key)
+abbrev pub digest : ℕ → ℕ
+digest f = f % 2 ^ 31
 
 -- "Weight of server S at digest D: (1103515245 x ((1103515245 x S + 12345) xor D) + 12345) modulo 2^31."
 unfoldable pub weight : ℕ → ℕ → ℕ

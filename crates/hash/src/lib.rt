@@ -23,11 +23,11 @@ pub fn fnv(bytes: &[u8]) -> u32
     h
 }
 
-// The digest of a key, by which HRW weighs servers.
-pub fn digest(key: &[u8]) -> u32
-    ensures { λ r. ⌜ r ≡ digest-of (now (key .entry)) ⌝ }
+// The digest of a key, by which HRW weighs servers, from the key's F.
+pub fn digest(f: u32) -> u32
+    ensures { λ r. ⌜ r ≡ digest-of f ⌝ }
 {
-    fnv(key) % 2147483648
+    f % 2147483648
 }
 
 // The weight of a server at a digest. Only the low 31 bits of any step matter, so the second

@@ -38,7 +38,7 @@ pickAt w key = pickBy (F key) (entryRead (w .state .roster .held) (F key) (w .ri
 pub ranking-strict : (c : Settings) (key : List ℕ) → Strict (rankingFor c key)
 ranking-strict c key =
     both (eqb (c .method) 3) (λ t. rw t (inRow-strict (row key (c .rows)))) (λ t.
-    both (eqb (c .method) 2) (λ u. rw (t, u) (ring-strict (point key))) (λ u. rw (t, u) (hrw-strict (digest key))))
+    both (eqb (c .method) 2) (λ u. rw (t, u) (ring-strict (point key))) (λ u. rw (t, u) (hrw-strict (digest (F key)))))
 
 module _ (w : World) (i : Inner w) (key : List ℕ) (s : ℕ) (works : member s (workingSet (w .state .roster)) ≡ true) where
   from-row : eqb (w .state .roster .settings .method) 3 ≡ true

@@ -5,7 +5,7 @@ use mathlib.Core.List.{List, [], _∷_}
 use mathlib.Core.Path.{_≡_}
 use lib.Dec.{eqb}
 use lib.ListN.{length}
-use Rattle.hash.specs.Hash.{digest, row, point}
+use Rattle.hash.specs.Hash.{F, digest, row, point}
 use Rattle.spans.specs.Spans.{same}
 use Rattle.ranking.specs.Ranking.{Ranking}
 use Rattle.ranking.specs.Methods.{hrw, inRow, ring as ring-at}
@@ -43,7 +43,7 @@ abbrev pub rankingFor : Settings → List ℕ → Ranking
 rankingFor c key =
     cond (eqb (c .method) 3) (inRow (row key (c .rows)))
     (cond (eqb (c .method) 2) (ring-at (point key))
-    (hrw (digest key)))
+    (hrw (digest (F key))))
 
 -- some record has a key; no key is recorded twice
 abbrev pub recorded : List ℕ → List Rec → Bool

@@ -1,25 +1,17 @@
--- No second answer satisfies a promise of this crate: each gives the answer as an equation.
-use Prim.Native.Nat.{ℕ}
+-- No second answer satisfies a promise of this crate: what a caller learns from each contract settles the answer.
 use mathlib.Core.Bool.{Bool}
-use mathlib.Core.List.{List}
-use mathlib.Core.Path.{_≡_, sym, _∙_}
-use Rattle.hash.specs.Hash.{weight}
-use Rattle.sets.specs.Sets.{inState}
+use mathlib.Core.Path.{_≡_}
 use Rattle.ranking.specs.declared.Best.{Best}
 use Rattle.ranking.specs.declared.Pick.{Pick}
-use Rattle.ranking.specs.Ranking.{picked}
-use Rattle.ranking.specs.Methods.{heavier, hrw}
-use Rattle.ranking.specs.Best.{bestOf, beaten}
+use Rattle.hrw.proofs.choose.Reads.{Learnt as choose-promise}
+use Rattle.hrw.proofs.outranked.Reads.{Learnt as outranked-promise}
+use Rattle.hrw.proofs.pick.Reads.{Learnt as pick-promise}
 
-module _ (servers states : List ℕ) (d : ℕ) where
-  pub choose-unique : (x y : Best) → x ≡ bestOf (hrw d) (λ s. weight s d) (inState 1 servers states)
-      → y ≡ bestOf (hrw d) (λ s. weight s d) (inState 1 servers states) → x ≡ y
-  choose-unique x y p q = p ∙ sym q
+pub choose-unique : (κs : _) (a : _) (x y : Best) (e e′ : _) → choose-promise κs a x e → choose-promise κs a y e′ → x ≡ y
+choose-unique κs a x y e e′ p q = cc
 
-  pub outranked-unique : (b : Best) (x y : Bool) → x ≡ beaten heavier (λ s. weight s d) b (inState 2 servers states)
-      → y ≡ beaten heavier (λ s. weight s d) b (inState 2 servers states) → x ≡ y
-  outranked-unique b x y p q = p ∙ sym q
+pub outranked-unique : (κs : _) (a : _) (x y : Bool) (e e′ : _) → outranked-promise κs a x e → outranked-promise κs a y e′ → x ≡ y
+outranked-unique κs a x y e e′ p q = cc
 
-  pub pick-unique : (x y : Pick) → x ≡ picked (hrw d) (inState 1 servers states) (inState 2 servers states)
-      → y ≡ picked (hrw d) (inState 1 servers states) (inState 2 servers states) → x ≡ y
-  pick-unique x y p q = p ∙ sym q
+pub pick-unique : (κs : _) (a : _) (x y : Pick) (e e′ : _) → pick-promise κs a x e → pick-promise κs a y e′ → x ≡ y
+pick-unique κs a x y e e′ p q = cc

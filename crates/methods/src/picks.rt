@@ -17,8 +17,9 @@ fn best(servers: &[u32], states: &[u8], digest: u32) {
 // F and the digest of the key whose 13 bytes are all the same.
 fn key(byte: u8) {
     let bytes = [byte; 13];
-    say::number(hash::fnv(&bytes) as u64);
-    say::number(hash::digest(&bytes) as u64);
+    let f = hash::fnv(&bytes);
+    say::number(f as u64);
+    say::number(hash::digest(f) as u64);
 }
 
 // Whether server a outranks server b: 1 by weight at D = 0, 1 by distance from point 0.

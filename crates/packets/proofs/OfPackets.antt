@@ -1,11 +1,12 @@
 -- What the rules come to for a packet that meets a sound roster, by the tests that the code makes.
-use Prim.Native.Nat.{ℕ, _/_, _%_, _^_, _≤_, _<_}
+use Prim.Native.Nat.{ℕ, _/_, _≤_, _<_}
 use mathlib.Core.Bool.{Bool, true, false, not, cond}
 use mathlib.Core.List.{List, [], _∷_}
 use mathlib.Core.Path.{_≡_, refl, sym, subst, _∙_}
 use lib.Dec.{eqb, leb}
 use lib.ListN.{length}
 use borrow.Author.Tests.{eq-eqb, ne-eqb, lt-ltb, le-ltb, eqb-true}
+use Rattle.hash.specs.Hash.{digest}
 use Rattle.sets.specs.Sets.{member, inState}
 use Rattle.sets.proofs.Cases.{both, clash}
 use Rattle.sets.proofs.Members.{member-head}
@@ -158,7 +159,7 @@ module _ (f : ℕ) (spot : Entry) (t rows flags : List ℕ) (r : Roster) (so : s
       (λ m. rw (s, m, second c v (ne-eqb (c .method) 1 n) m) (rw m at e))
 
   pub pick-hrw : (p : Pick) (ss xs : List ℕ) → Lent r ss xs → c .method ≡ 1
-      → p ≡ picked (hrw (f % 2 ^ 31)) (inState 1 ss xs) (inState 2 ss xs) → p ≡ pickBy f spot (stateWith t rows flags r)
+      → p ≡ picked (hrw (digest f)) (inState 1 ss xs) (inState 2 ss xs) → p ≡ pickBy f spot (stateWith t rows flags r)
   unfolding pickBy
   pick-hrw p ss xs l m e = rw (s, m, l .servers, l .states) e
 

@@ -77,7 +77,7 @@ fn lead(
         Found::At(place) => known(place, table, servers, states),
         Found::Nothing(used) => {
             if settings.method == 1 {
-                let best = hrw::pick(servers, states, f % 2147483648);
+                let best = hrw::pick(servers, states, hash::digest(f));
                 if best.server == 0 {
                     return Reply::Refused(7);
                 }

@@ -1,5 +1,5 @@
 -- Each method's ranking is strict: HRW and the row by weight, the ring by distance, ties to the higher number in both.
-use Prim.Native.Nat.{ℕ, _≤_, _<_}
+use Prim.Native.Nat.{ℕ}
 use mathlib.Core.Bool.{Bool, true, false, cond}
 use mathlib.Core.Path.{_≡_, refl, sym, _∙_}
 use native.Mathlib.Omega.{arith}

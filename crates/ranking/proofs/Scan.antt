@@ -1,27 +1,12 @@
 -- A loop that keeps the best server so far ends with the choice over all it met.
 use Prim.Native.Nat.{ℕ}
-use mathlib.Core.Bool.{Bool, true, false, cond, _||_}
+use mathlib.Core.Bool.{Bool, true, false}
 use mathlib.Core.List.{List, [], _∷_}
 use mathlib.Core.Path.{_≡_, refl, sym, ap, _∙_}
 use Rattle.sets.proofs.Cases.{both, clash}
 use Rattle.ranking.specs.declared.Best.{Best}
-use Rattle.ranking.specs.declared.Pick.{Pick}
-use Rattle.ranking.specs.Best.{noneYet, bestIs, kept, bestOf, beaten}
-use Rattle.ranking.specs.Ranking.{Ranking, highest, choice, outranked, picked}
-
--- the three ways of one more server
-module _ (outranks : ℕ → ℕ → ℕ → ℕ → Bool) (b : Best) (s m : ℕ) where
-  pub kept-first : b .any ≡ false → bestIs s m ≡ kept outranks b s m
-  unfolding kept
-  kept-first f = rw f
-
-  pub kept-stays : b .any ≡ true → outranks m s (b .measure) (b .server) ≡ false → b ≡ kept outranks b s m
-  unfolding kept
-  kept-stays t f = rw (t, f)
-
-  pub kept-yields : b .any ≡ true → outranks m s (b .measure) (b .server) ≡ true → bestIs s m ≡ kept outranks b s m
-  unfolding kept
-  kept-yields t u = rw (t, u)
+use Rattle.ranking.specs.Best.{noneYet, bestIs, keptIf, kept, bestOf, beaten}
+use Rattle.ranking.specs.Ranking.{Ranking, highest, choice, outranked, pickOf, picked}
 
 -- a ranking that goes by what is measured of each server
 module _ (outranks : ℕ → ℕ → ℕ → ℕ → Bool) (measure : ℕ → ℕ) where
@@ -34,12 +19,12 @@ module _ (outranks : ℕ → ℕ → ℕ → ℕ → Bool) (measure : ℕ → �
   keptAll b (s ∷ l) = keptAll (kept outranks b s (measure s)) l
 
   keeps : (c : ℕ) (l : List ℕ) → keptAll (bestIs c (measure c)) l ≡ bestIs (highest byMeasure c l) (measure (highest byMeasure c l))
-  unfolding keptAll kept
+  unfolding keptAll keptIf
   keeps c [] = refl
   keeps c (s ∷ l) = both (byMeasure s c) (λ t. rw t (keeps s l)) (λ t. rw t (keeps c l))
 
   pub keptAll-best : (l : List ℕ) → keptAll noneYet l ≡ bestOf byMeasure measure l
-  unfolding keptAll kept bestOf
+  unfolding keptAll keptIf bestOf
   keptAll-best [] = refl
   keptAll-best (s ∷ l) = keeps s l
 
@@ -51,30 +36,20 @@ module _ (outranks : ℕ → ℕ → ℕ → ℕ → Bool) (measure : ℕ → �
 
   -- so the best of the working servers, and a search of the horizon for one that beats it, give what a packet is given
   module _ (working horizon : List ℕ) (b : Best) (e : b ≡ bestOf byMeasure measure working) where
-    pub pick-none : b .any ≡ false → record { server = 0; flag = false } ≡ picked byMeasure working horizon
+    pub pick-none : b .any ≡ false → pickOf 0 false ≡ picked byMeasure working horizon
     unfolding bestOf
     pick-none f = none working (ap (λ (x : Best). x .any) (sym e) ∙ f)
       where
-        none : (w : List ℕ) → bestOf byMeasure measure w .any ≡ false → record { server = 0; flag = false } ≡ picked byMeasure w horizon
+        none : (w : List ℕ) → bestOf byMeasure measure w .any ≡ false → pickOf 0 false ≡ picked byMeasure w horizon
         none [] f = refl
         none (s ∷ w) f = clash refl f
 
-    pub pick-some : (v : Bool) → b .any ≡ true → v ≡ beaten outranks measure b horizon → record { server = b .server; flag = v } ≡ picked byMeasure working horizon
+    pub pick-some : (v : Bool) → b .any ≡ true → v ≡ beaten outranks measure b horizon → pickOf (b .server) v ≡ picked byMeasure working horizon
     unfolding bestOf
     pick-some v t q =
         some working (ap (λ (x : Best). x .any) (sym e) ∙ t) (q ∙ ap (λ (x : Best). beaten outranks measure x horizon) e) (ap (λ (x : Best). x .server) e)
       where
         some : (w : List ℕ) {c : ℕ} → bestOf byMeasure measure w .any ≡ true → v ≡ beaten outranks measure (bestOf byMeasure measure w) horizon
-            → c ≡ bestOf byMeasure measure w .server → record { server = c; flag = v } ≡ picked byMeasure w horizon
+            → c ≡ bestOf byMeasure measure w .server → pickOf c v ≡ picked byMeasure w horizon
         some [] t q a = clash t refl
-        some (s ∷ w) t q a = rw (a, q) (ap (λ (f : Bool). record { server = choice byMeasure (s ∷ w); flag = f }) (beaten-outranked (choice byMeasure (s ∷ w)) horizon))
-
--- the steps of a search for one that beats the best
-module _ (outranks : ℕ → ℕ → ℕ → ℕ → Bool) (measure : ℕ → ℕ) (b : Best) (h : ℕ) (l : List ℕ) (W : Bool) (so : beaten outranks measure b (h ∷ l) ≡ W) where
-  pub beaten-found : outranks (measure h) h (b .measure) (b .server) ≡ true → true ≡ W
-  unfolding beaten
-  beaten-found t = rw t at so
-
-  pub beaten-more : outranks (measure h) h (b .measure) (b .server) ≡ false → beaten outranks measure b l ≡ W
-  unfolding beaten
-  beaten-more f = rw f at so
+        some (s ∷ w) t q a = rw (a, q) (ap (pickOf (choice byMeasure (s ∷ w))) (beaten-outranked (choice byMeasure (s ∷ w)) horizon))

@@ -1,19 +1,24 @@
--- No second answer satisfies a promise of this crate: each gives the answer as an equation.
-use Prim.Native.Nat.{ℕ}
+-- No second answer satisfies a promise of this crate: what a caller learns from each contract settles the answer.
 use mathlib.Core.Bool.{Bool}
-use mathlib.Core.Path.{_≡_, sym, _∙_}
+use mathlib.Core.Path.{_≡_}
 use Rattle.ranking.specs.declared.Best.{Best}
-use Rattle.ranking.specs.Best.{noneYet, kept}
-use Rattle.ranking.specs.Methods.{heavier, nearer}
+use Rattle.ranking.proofs.heavier.Reads.{Learnt as heavier-promise}
+use Rattle.ranking.proofs.nearer.Reads.{Learnt as nearer-promise}
+use Rattle.ranking.proofs.none_yet.Reads.{Learnt as none-yet-promise}
+use Rattle.ranking.proofs.keep_heavier.Reads.{Learnt as keep-heavier-promise}
+use Rattle.ranking.proofs.keep_nearer.Reads.{Learnt as keep-nearer-promise}
 
-pub heavier-unique : (wa a wb b : ℕ) (x y : Bool) → x ≡ heavier wa a wb b → y ≡ heavier wa a wb b → x ≡ y
-heavier-unique wa a wb b x y p q = cc
+pub heavier-unique : (κs : _) (a : _) (x y : Bool) (e e′ : _) → heavier-promise κs a x e → heavier-promise κs a y e′ → x ≡ y
+heavier-unique κs a x y e e′ p q = cc
 
-pub nearer-unique : (da a db b : ℕ) (x y : Bool) → x ≡ nearer da a db b → y ≡ nearer da a db b → x ≡ y
-nearer-unique da a db b x y p q = cc
+pub nearer-unique : (κs : _) (a : _) (x y : Bool) (e e′ : _) → nearer-promise κs a x e → nearer-promise κs a y e′ → x ≡ y
+nearer-unique κs a x y e e′ p q = cc
 
-pub none-yet-unique : (x y : Best) → x ≡ noneYet → y ≡ noneYet → x ≡ y
-none-yet-unique x y p q = p ∙ sym q
+pub none-yet-unique : (κs : _) (a : _) (x y : Best) (e e′ : _) → none-yet-promise κs a x e → none-yet-promise κs a y e′ → x ≡ y
+none-yet-unique κs a x y e e′ p q = cc
 
-pub keep-unique : (outranks : ℕ → ℕ → ℕ → ℕ → Bool) (b : Best) (s m : ℕ) (x y : Best) → x ≡ kept outranks b s m → y ≡ kept outranks b s m → x ≡ y
-keep-unique outranks b s m x y p q = p ∙ sym q
+pub keep-heavier-unique : (κs : _) (a : _) (x y : Best) (e e′ : _) → keep-heavier-promise κs a x e → keep-heavier-promise κs a y e′ → x ≡ y
+keep-heavier-unique κs a x y e e′ p q = cc
+
+pub keep-nearer-unique : (κs : _) (a : _) (x y : Best) (e e′ : _) → keep-nearer-promise κs a x e → keep-nearer-promise κs a y e′ → x ≡ y
+keep-nearer-unique κs a x y e e′ p q = cc

@@ -2,7 +2,7 @@
 -- there is a list of horizon servers whose addition changes it; the choice over working and horizon together differs from it
 -- (Algorithm 1, line 5); some horizon server outranks it (the paper's theorem 4.4).
 use Prim.Native.Nat.{ℕ}
-use mathlib.Core.Bool.{Bool, true, false}
+use mathlib.Core.Bool.{true, false}
 use mathlib.Core.List.{List, [], _∷_, _++_}
 use mathlib.Core.Logic.{_≢_, _↔_}
 use mathlib.Core.Path.{_≡_, refl}

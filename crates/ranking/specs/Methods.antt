@@ -3,7 +3,7 @@ use Prim.Native.Nat.{ℕ}
 use mathlib.Core.Bool.{Bool, cond}
 use mathlib.Core.List.{List}
 use lib.Dec.{eqb, ltb}
-use Rattle.hash.specs.Hash.{digest, weight, row, position, point, distance}
+use Rattle.hash.specs.Hash.{weight, position, distance}
 use Rattle.ranking.specs.Ranking.{Ranking, choice, unsafe}
 
 -- "a higher weight outranks. Equal weights occur between S and S + 2^31 and then the higher number outranks": weight and number of a, then of b

@@ -41,9 +41,13 @@ abbrev pub unsafe : Ranking → List ℕ → List ℕ → Bool
 unsafe R [] horizon = false
 unsafe R (s ∷ working) horizon = outranked R (choice R (s ∷ working)) horizon
 
+-- what a method gives a packet: a server, and whether that choice is unsafe
+abbrev pub pickOf : ℕ → Bool → Pick
+pickOf s f = record { server = s; flag = f }
+
 -- what a packet without a record is given: the choice over the working set, and whether it is unsafe
 abbrev pub picked : Ranking → List ℕ → List ℕ → Pick
-picked R working horizon = record { server = choice R working; flag = unsafe R working horizon }
+picked R working horizon = pickOf (choice R working) (unsafe R working horizon)
 
 -- "adding some set of horizon movers would change that choice": there is a list of horizon servers whose addition to the working ones changes the choice
 abbrev pub SomeChange : Ranking → List ℕ → List ℕ → Type 0

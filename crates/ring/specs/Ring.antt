@@ -1,11 +1,12 @@
 -- Document 01, "Rows and ring": "The ring is a list of 64 places whose entries each hold a position, a server and a track flag": how a
 -- lent ring is read, and its first entries written. What the entries have to be is in the crate `ringplan`.
 use Prim.Native.Nat.{ℕ}
-use mathlib.Core.Bool.{Bool, true, false, cond, not}
+use mathlib.Core.Bool.{cond, not}
 use mathlib.Core.List.{List, [], _∷_, _++_}
 use lib.Dec.{eqb, leb}
 use lib.ListN.{length, getD, take, drop}
 use Rattle.ranking.specs.declared.Pick.{Pick}
+use Rattle.ranking.specs.Ranking.{pickOf}
 use Rattle.ring.specs.declared.Entry.{Entry}
 
 -- what stands past the end of a ring
@@ -22,7 +23,7 @@ entryRead places point es = firstFrom point (take places es) (getD es 0 blank)
 
 -- what an entry gives a packet: "A flag byte other than 0 counts as set."
 abbrev pub gives : Entry → Pick
-gives e = record { server = e .server; flag = not (eqb (e .track) 0) }
+gives e = pickOf (e .server) (not (eqb (e .track) 0))
 
 -- the first entries of a ring written from a plan of 64, "the rest stay as they are"; more than the plan or the ring has are not written at all
 unfoldable pub overlaid : List Entry → ℕ → List Entry → List Entry

@@ -3,16 +3,16 @@
 use Prim.Native.Nat.{ℕ, _+_, _-_, _^_, _≤_, _<_}
 use mathlib.Core.Bool.{Bool, true, false, cond, _||_}
 use mathlib.Core.List.{List, [], _∷_}
-use mathlib.Core.Path.{_≡_, refl, sym, ap, _∙_}
+use mathlib.Core.Path.{_≡_, refl}
 use native.Mathlib.Omega.{arith}
 use lib.Dec.{eqb, ltb, leb}
-use borrow.Author.Tests.{leb-true, leb-false, eqb-true, eqb-false, eq-eqb, ltb-false, le-ltb}
+use borrow.Author.Tests.{leb-true, leb-false, eqb-true, eqb-false, ltb-false, le-ltb}
 use Rattle.hash.specs.Hash.{position, distance}
-use Rattle.hash.proofs.Bounds.{position-fits, distance-fits, distance-ahead, distance-behind}
+use Rattle.hash.proofs.Bounds.{position-fits, distance-ahead, distance-behind}
 use Rattle.sets.specs.Sets.{member}
 use Rattle.sets.proofs.Cases.{both, clash}
 use Rattle.sets.proofs.Members.{member-head, member-tail, member-cases}
-use Rattle.ranking.specs.Ranking.{Ranking, Strict, choice}
+use Rattle.ranking.specs.Ranking.{choice}
 use Rattle.ranking.specs.Methods.{byDistance, ring}
 use Rattle.ranking.proofs.Instances.{ring-strict}
 use Rattle.ranking.proofs.Choice.{choice-member, choice-tops, choice-only}
@@ -67,7 +67,7 @@ module _ (d : ℕ → ℕ) (x y : ℕ) where
       both (eqb (d x) (d y)) (λ t. rw t (le-ltb y x (f (eqb-true _ _ t)))) (λ t. rw t (le-ltb (d x) (d y) l))
 
 -- the distance of a server from a point
-abbrev from : ℕ → ℕ → ℕ
+abbrev pub from : ℕ → ℕ → ℕ
 from p s = distance (position s) p
 
 -- the order of positions, seen from a point: it stays among those ahead of it and among those behind it

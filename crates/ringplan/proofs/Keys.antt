@@ -1,32 +1,28 @@
 -- Servers by their keys: the order of keys is the ring's order, and each server has its own key, from which its position and number are read back.
-use Prim.Native.Nat.{ℕ, zero, suc, _+_, _*_, _-_, _/_, _%_, _^_, _≤_, _<_}
-use mathlib.Core.Bool.{Bool, true, false, cond, _||_}
+use Prim.Native.Nat.{ℕ, zero, suc, _+_, _-_, _^_, _≤_, _<_}
+use mathlib.Core.Bool.{true, false, cond}
 use mathlib.Core.List.{List, [], _∷_, map}
 use mathlib.Core.Path.{_≡_, refl, sym, ap, _∙_}
 use native.Mathlib.Nat.{not-suc-le-zero, le-of-suc-le-suc}
+use native.Mathlib.Numerals.{add-one}
 use native.Mathlib.Omega.{arith}
-use lib.Dec.{eqb, leb, ltb}
-use lib.ListN.{length, getD}
-use borrow.Author.Tests.{eqb-true, eqb-false, eq-eqb, ne-eqb, ltb-true, ltb-false, lt-ltb, le-ltb, leb-true, leb-false, le-leb, lt-leb}
-use Rattle.hash.specs.Hash.{position}
-use Rattle.hash.proofs.Bounds.{position-fits}
+use mir.Val.{boolByte}
+use lib.Dec.{eqb, ltb}
+use lib.ListN.{length, getD, drop, length-map, drop-of-length-le}
+use lib.Seq.{drop-cons}
+use borrow.Author.Tests.{eqb-true, eqb-false, eq-eqb, ne-eqb, ltb-true, ltb-false, lt-ltb, le-ltb}
+use Rattle.hash.specs.Hash.{position, distance}
 use Rattle.sets.specs.Sets.{member, inState}
-use Rattle.sets.proofs.Cases.{both, clash}
-use Rattle.sets.proofs.Members.{member-head}
+use Rattle.sets.proofs.Cases.{both}
+use Rattle.ranking.specs.declared.Best.{Best}
+use Rattle.ranking.specs.Best.{noneYet, kept, bestOf}
 use Rattle.ranking.specs.Ranking.{choice}
-use Rattle.ranking.specs.Methods.{ring}
-use Rattle.ranking.proofs.Instances.{ring-strict}
-use Rattle.ranking.proofs.Choice.{choice-set}
+use Rattle.ranking.specs.Methods.{nearer, ring}
+use Rattle.ranking.proofs.Scan.{keptAll, keptAll-best}
 use Rattle.ring.specs.declared.Entry.{Entry}
 use Rattle.ringplan.specs.Plan.{standsBefore, placed, arranged, some, entryOf}
-use Rattle.ringplan.specs.Keys.{keyOf, keyServer, keyPlaced, keySought, keyAway, keyEntry}
-use Rattle.ringplan.proofs.Order.{member-arranged, length-arranged, ordered}
-use Rattle.ringplan.proofs.Clockwise.{seek, front, seek-choice}
-
--- numbers that fit four bytes, as every server does
-abbrev pub Fit : List ℕ → Type 0
-Fit [] = Unit {0}
-Fit (s ∷ l) = (s < 2 ^ 32) × Fit l
+use Rattle.ringplan.specs.Keys.{Fit, keyOf, keyPosition, keyServer, keyPlaced}
+use Rattle.ringplan.proofs.Clockwise.{from}
 
 pub fit-all : (l : List ℕ) → ((i : ℕ) → getD l i 0 < 2 ^ 32) → Fit l
 fit-all [] h = tt
@@ -60,10 +56,13 @@ unfolding arranged
 fit-arranged [] f = tt
 fit-arranged (s ∷ l) f = fit-placed s (arranged l) (f .0) (fit-arranged l (f .1))
 
+abbrev entry : ℕ → ℕ → ℕ → Entry
+entry q s t = record { position = q; server = s; track = t }
+
 -- position and number, read back
 module _ (s : ℕ) (h : s < 2 ^ 32) where
-  pub key-position : keyOf s / 2 ^ 32 ≡ position s
-  unfolding keyOf
+  pub key-position : keyPosition (keyOf s) ≡ position s
+  unfolding keyPosition keyOf
   key-position = omega arith
 
   pub key-server : keyServer (keyOf s) ≡ s
@@ -115,64 +114,44 @@ member-keys : (s : ℕ) (l : List ℕ) → s < 2 ^ 32 → Fit l → member (keyO
 member-keys s [] h f = refl
 member-keys s (x ∷ l) h f = rw (key-same s x h (f .0), member-keys s l h (f .1))
 
--- the first key that isn't below a position is that of the first server that isn't
-key-from : (p x : ℕ) → x < 2 ^ 32 → leb (p * 2 ^ 32) (keyOf x) ≡ leb p (position x)
-unfolding keyOf
-key-from p x h =
-    both
-    (leb p (position x))
-    (λ t. let l : p ≤ position x = leb-true p (position x) t in le-leb (p * 2 ^ 32) (keyOf x) (omega arith) ∙ sym t)
-    (λ t. let l : position x < p = leb-false p (position x) t in lt-leb (p * 2 ^ 32) (keyOf x) (omega arith) ∙ sym t)
+-- a loop over the working servers' keys that keeps the nearest: what is left from index i on decides the whole, and the ways on
+module _ (keys : List ℕ) (p : ℕ) (best : Best) (i : ℕ) where
+  abbrev pub Nearing : Type 0
+  Nearing = (w : List ℕ) → Fit w → keys ≡ map keyOf w → keptAll nearer (from p) best (drop i w) ≡ bestOf (ring p) (from p) w
 
-sought-keys : (p : ℕ) (l : List ℕ) (d : ℕ) → Fit l → keySought (p * 2 ^ 32) (map keyOf l) (keyOf d) ≡ keyOf (seek p l d)
-unfolding keySought seek
-sought-keys p [] d f = refl
-sought-keys p (x ∷ l) d f =
-    both
-    (leb p (position x))
-    (λ t. rw (key-from p x (f .0) ∙ t, t))
-    (λ t. rw (key-from p x (f .0) ∙ t, t) (sought-keys p l d (f .1)))
+pub nearing-none : (keys : List ℕ) (p : ℕ) (best : Best) → best ≡ noneYet → Nearing keys p best 0
+nearing-none keys p best e w f q = rw e (keptAll-best nearer (from p) w)
 
-seek-fits : (p : ℕ) (l : List ℕ) (d : ℕ) → d < 2 ^ 32 → Fit l → seek p l d < 2 ^ 32
-unfolding seek
-seek-fits p [] d h f = h
-seek-fits p (x ∷ l) d h f = both (leb p (position x)) (λ t. rw t (f .0)) (λ t. rw t (seek-fits p l d h (f .1)))
+module _ (keys : List ℕ) (p : ℕ) (best : Best) (i : ℕ) (so : Nearing keys p best i) where
+  pub nearing-more : (r v d : ℕ) (best′ : Best) → i < length keys → r ≡ keyPosition (getD keys i 0) → d ≡ distance r p → v ≡ keyServer (getD keys i 0)
+      → best′ ≡ kept nearer best v d → Nearing keys p best′ (i + 1)
+  unfolding keptAll
+  nearing-more r v d best′ h er ed ev eb w f q =
+      let s = getD w i 0 in
+      let n : i < length w = omega (arith, ap length q, length-map w keyOf) in
+      let k : getD keys i 0 ≡ keyOf s = ap (λ (l : List ℕ). getD l i 0) q ∙ getD-map keyOf w i n in
+      let fits : s < 2 ^ 32 = fit-at w i n f in
+      let a : v ≡ s = ev ∙ ap keyServer k ∙ key-server s fits in
+      let b : d ≡ from p s = ed ∙ ap (λ (x : ℕ). distance x p) (er ∙ ap keyPosition k ∙ key-position s fits) in
+      rw (eb, a, b, add-one) (rw (drop-cons w i 0 n) at (so w f q))
 
-abbrev entry : ℕ → ℕ → ℕ → Entry
-entry q s t = record { position = q; server = s; track = t }
+  pub nearing-done : length keys ≤ i → (w : List ℕ) → Fit w → keys ≡ map keyOf w → best ≡ bestOf (ring p) (from p) w
+  unfolding keptAll
+  nearing-done h w f q =
+      rw (drop-of-length-le w {i = i} (omega (arith, ap length q, length-map w keyOf))) at (so w f q)
 
 -- the entry worked out from keys is the entry that the server owns
-module _ (w : List ℕ) (s : ℕ) (h : s < 2 ^ 32) (f : Fit w) where
-  works : member (keyOf s) (map keyOf (arranged w)) ≡ member s w
-  works = member-keys s (arranged w) h (fit-arranged w f) ∙ member-arranged s w
+module _ (w : List ℕ) (s : ℕ) (f : Fit w) (h : s < 2 ^ 32) where
+  pub entry-own : (r v : ℕ) → r ≡ keyPosition (keyOf s) → v ≡ keyServer (keyOf s) → member (keyOf s) (map keyOf w) ≡ true
+      → record { position = r; server = v; track = 0 } ≡ entryOf w s
+  entry-own r v er ev t = rw (sym (member-keys s w h f) ∙ t, er ∙ key-position s h, ev ∙ key-server s h)
 
-  -- of a server that doesn't work, in the cases of the order's list
-  away : (l : List ℕ) → arranged w ≡ l → member s w ≡ false → keyAway (map keyOf l) (keyOf s) ≡ entryOf w s
-  unfolding keyAway front
-  away [] q e = rw (key-position s h, e) (none w q)
+  pub entry-away : (r : ℕ) (b : Best) → r ≡ keyPosition (keyOf s) → b ≡ bestOf (ring r) (from r) w → member (keyOf s) (map keyOf w) ≡ false
+      → record { position = r; server = b .server; track = boolByte (b .any) } ≡ entryOf w s
+  unfolding bestOf
+  entry-away r b er e t = rw (sym (member-keys s w h f) ∙ t, e, er ∙ key-position s h) (names w)
     where
-      none : (v : List ℕ) → arranged v ≡ [] → entry (position s) 0 0 ≡ entry (position s) (choice (ring (position s)) v) (cond (some v) 1 0)
-      none [] z = refl
-      none (y ∷ v) z = absurd (omega (arith, ap length z, length-arranged (y ∷ v)))
-  away (x ∷ l) q e =
-      let p = position s in
-      let fx : Fit (x ∷ l) = rw q at (fit-arranged w f) in
-      let chosen : choice (ring p) w ≡ seek p (x ∷ l) x =
-      choice-set (ring p) (ring-strict p) w (arranged w) (λ y. sym (member-arranged y w))
-      ∙ ap (choice (ring p)) q
-      ∙ seek-choice p x (x ∷ l) (position-fits s) (rw q at (ordered w)) (member-head x l) in
-      let read : keyServer (keySought (p * 2 ^ 32) (map keyOf (x ∷ l)) (keyOf x)) ≡ choice (ring p) w =
-      ap keyServer (sought-keys p (x ∷ l) x fx) ∙ key-server (seek p (x ∷ l) x) (seek-fits p (x ∷ l) x (fx .0) fx) ∙ sym chosen in
-      rw (key-position s h, e, read, there w q)
-    where
-      there : (v : List ℕ) → arranged v ≡ x ∷ l → some v ≡ true
-      there [] z = absurd (omega (arith, ap length z, length-arranged []))
-      there (y ∷ v) z = refl
-
-  pub entry-keys : keyEntry (map keyOf (arranged w)) (keyOf s) ≡ entryOf w s
-  unfolding keyEntry
-  entry-keys =
-      both
-      (member s w)
-      (λ t. rw (works ∙ t, t, key-position s h, key-server s h))
-      (λ t. rw (works ∙ t) (away (arranged w) refl t))
+      names : (v : List ℕ) → entry (position s) (bestOf (ring (position s)) (from (position s)) v .server) (boolByte (bestOf (ring (position s)) (from (position s)) v .any))
+          ≡ entry (position s) (choice (ring (position s)) v) (cond (some v) 1 0)
+      names [] = refl
+      names (y ∷ v) = refl

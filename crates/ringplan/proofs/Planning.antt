@@ -1,22 +1,21 @@
 -- The order of all servers, built from the last one on, and the entries laid out in a plan.
-use Prim.Native.Nat.{ℕ, suc, _+_, _*_, _-_, _/_, _^_, _<_, _≤_}
-use mathlib.Core.Bool.{Bool, true, false, cond}
-use mathlib.Core.List.{List, [], _∷_, _++_, map, append-nil}
+use Prim.Native.Nat.{ℕ, suc, _+_, _-_, _^_, _<_, _≤_}
+use mathlib.Core.List.{List, [], _∷_, _++_, map}
 use mathlib.Core.Path.{_≡_, refl, sym, ap, _∙_}
 use native.Mathlib.Numerals.{add-one}
 use native.Mathlib.Omega.{arith}
 use lib.Dec.{leb}
-use lib.ListN.{length, getD, take, drop, set, replicate, length-map, length-set, length-replicate, length-append, drop-of-length-le}
+use lib.ListN.{length, getD, take, drop, set, replicate, length-map, drop-of-length-le}
 use lib.Seq.{drop-cons, take-suc, take-all, length-take-le, set-at, append-snoc, take-at, getD-drop, getD-take}
 use borrow.Author.Tests.{le-leb, lt-leb}
-use Rattle.sets.specs.Sets.{member, inState}
+use Rattle.sets.specs.Sets.{inState}
 use Rattle.ring.specs.declared.Entry.{Entry}
 use Rattle.ring.specs.Ring.{blank, overlaid}
 use Rattle.ringplan.specs.Plan.{placed, arranged, entryOf, entries, drawn, planned}
-use Rattle.ringplan.specs.Keys.{keyOf, keyServer, keyPlaced, Rising, keySought, keyAway, keyEntry}
+use Rattle.ringplan.specs.Keys.{Fit, keyOf, keyPlaced, Rising}
 use Rattle.ringplan.proofs.Order.{length-arranged}
 use Rattle.ringplan.proofs.Placing.{rising-placed}
-use Rattle.ringplan.proofs.Keys.{Fit, fit-all, fit-at, fit-in-state, fit-arranged, getD-map, placed-keys, entry-keys}
+use Rattle.ringplan.proofs.Keys.{fit-all, fit-at, fit-in-state, fit-arranged, getD-map, placed-keys}
 use Rattle.ringplan.proofs.Reading.{length-entries}
 
 -- keys put in order don't fall
@@ -71,33 +70,6 @@ arranging-done servers order n i end a =
     let q : n ≡ length servers = omega (arith, a .counted) in
     rw (e, q) at (a .so)
 
-abbrev entry : ℕ → ℕ → ℕ → Entry
-entry q s t = record { position = q; server = s; track = t }
-
--- the entry of a key, by the ways of the code
-module _ (ws : List ℕ) (k : ℕ) where
-  pub entry-own : (v : ℕ) → v ≡ keyServer k → member k ws ≡ true → record { position = k / 2 ^ 32; server = v; track = 0 } ≡ keyEntry ws k
-  unfolding keyEntry
-  entry-own v e t = rw (t, e)
-
-  pub entry-none : member k ws ≡ false → length ws ≡ 0 → record { position = k / 2 ^ 32; server = 0; track = 0 } ≡ keyEntry ws k
-  unfolding keyEntry keyAway
-  entry-none t z = rw t (none ws z)
-    where
-      none : (l : List ℕ) → length l ≡ 0 → entry (k / 2 ^ 32) 0 0 ≡ keyAway l k
-      none [] e = refl
-      none (x ∷ l) e = absurd (omega arith)
-
-  pub entry-next : (n v : ℕ) → n ≡ keySought (k / 2 ^ 32 * 2 ^ 32) ws (getD ws 0 0) → v ≡ keyServer n → member k ws ≡ false → (length ws ≡ 0 → ⊥)
-      → record { position = k / 2 ^ 32; server = v; track = 1 } ≡ keyEntry ws k
-  unfolding keyEntry keyAway
-  entry-next n v en ev t z = rw (t, ev, en) (next ws z)
-    where
-      next : (l : List ℕ) → (length l ≡ 0 → ⊥)
-          → entry (k / 2 ^ 32) (keyServer (keySought (k / 2 ^ 32 * 2 ^ 32) l (getD l 0 0))) 1 ≡ keyAway l k
-      next [] e = absurd (e refl)
-      next (x ∷ l) e = refl
-
 -- all is ready to lay entries out: the servers' keys in order, and those of the working ones, of which there are m
 pub record Ready (held working order keys : List ℕ) (m : ℕ) : Type 0 where
   pub small : length held ≤ 64
@@ -107,14 +79,12 @@ pub record Ready (held working order keys : List ℕ) (m : ℕ) : Type 0 where
   pub keys-sized : length keys ≡ 64
   pub few : m ≤ 64
   pub in-order : take (length held) order ≡ map keyOf (arranged held)
-  pub working-keys : take m keys ≡ map keyOf (arranged working)
+  pub working-keys : take m keys ≡ map keyOf working
 
-pub ready : (held states at-work order keys : List ℕ) (m : ℕ) → length held ≤ 64 → ((j : ℕ) → getD held j 0 < 2 ^ 32)
-    → length order ≡ 64 → length keys ≡ 64 → length at-work ≡ 64 → m ≤ 64 → take m at-work ≡ inState 1 held states
-    → take (length held) order ≡ map keyOf (arranged held) → take (length (take m at-work)) keys ≡ map keyOf (arranged (take m at-work))
-    → Ready held (inState 1 held states) order keys m
-ready held states at-work order keys m small fit so sk sw few w o k =
-    let l : length (take m at-work) ≡ m = length-take-le m at-work (omega arith) in
+pub ready : (held states order keys : List ℕ) (m : ℕ) → length held ≤ 64 → ((j : ℕ) → getD held j 0 < 2 ^ 32)
+    → length order ≡ 64 → length keys ≡ 64 → m ≤ 64 → take m keys ≡ map keyOf (inState 1 held states)
+    → take (length held) order ≡ map keyOf (arranged held) → Ready held (inState 1 held states) order keys m
+ready held states order keys m small fit so sk few k o =
     record {
       small = small;
       fits = fit-all held fit;
@@ -123,7 +93,7 @@ ready held states at-work order keys m small fit so sk sw few w o k =
       keys-sized = sk;
       few = few;
       in-order = o;
-      working-keys = (rw (l, w) at k);
+      working-keys = k;
     }
 
 -- the first i entries are laid out, and the places behind them are blank
@@ -153,21 +123,21 @@ module _ (f : ℕ → Entry) where
       ∙ sym (append-snoc (map f (take i order)) (f (getD order i 0)) (replicate (m - (i + 1)) b)))
 
 -- the entry is worked out from a key of the order and from the keys of the working servers
-pub laid-more : (held working order keys : List ℕ) (m : ℕ) (plan : List Entry) (i : ℕ) → i < length held → Ready held working order keys m
-    → LaidOut held working plan i → LaidOut held working (set plan i (keyEntry (take m keys) (getD order i 0))) (i + 1)
-laid-more held working order keys m plan i here r a =
+pub laid-more : (held working order keys : List ℕ) (m : ℕ) (plan : List Entry) (i : ℕ) (e : Entry) → i < length held → Ready held working order keys m
+    → ((w : List ℕ) (s : ℕ) → Fit w → s < 2 ^ 32 → take m keys ≡ map keyOf w → getD order i 0 ≡ keyOf s → e ≡ entryOf w s)
+    → LaidOut held working plan i → LaidOut held working (set plan i e) (i + 1)
+laid-more held working order keys m plan i e here r says a =
     let small = r .small in
-    let o = r .in-order in
     let x = getD (arranged held) i 0 in
     let within : i < length (arranged held) = omega (arith, length-arranged held) in
     let k : getD order i 0 ≡ keyOf x =
-    sym (getD-take (length held) order i 0 here) ∙ ap (λ (l : List ℕ). getD l i 0) o ∙ getD-map keyOf (arranged held) i within in
-    let e : keyEntry (take m keys) (getD order i 0) ≡ entryOf working x =
-    rw (r .working-keys, k) (entry-keys working x (fit-at (arranged held) i within (fit-arranged held (r .fits))) (r .working-fits)) in
+    sym (getD-take (length held) order i 0 here) ∙ ap (λ (l : List ℕ). getD l i 0) (r .in-order) ∙ getD-map keyOf (arranged held) i within in
+    let q : e ≡ entryOf working x =
+    says working x (r .working-fits) (fit-at (arranged held) i within (fit-arranged held (r .fits))) (r .working-keys) k in
     record {
       within = omega arith;
       so =
-          ap (set plan i) e
+          ap (set plan i) q
           ∙ ap (λ (p : List Entry). set p i (entryOf working x)) (a .so)
           ∙ laid-one (entryOf working) (arranged held) blank 64 i within (omega arith);
     }

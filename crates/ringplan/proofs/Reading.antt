@@ -1,7 +1,7 @@
 -- What a key reads on a ring drawn for the sets: the choice over the working set at the key's point, flagged exactly where some horizon
 -- server outranks it; equal positions and wrap-around included.
 use Prim.Native.Nat.{ℕ, _^_, _<_}
-use mathlib.Core.Bool.{Bool, true, false, cond, not, _||_}
+use mathlib.Core.Bool.{true, false, not, _||_}
 use mathlib.Core.List.{List, [], _∷_, _++_, map}
 use mathlib.Core.Path.{_≡_, refl, sym, ap, _∙_}
 use lib.Dec.{eqb, leb}
@@ -10,9 +10,7 @@ use lib.Seq.{take-at}
 use Rattle.hash.specs.Hash.{position}
 use Rattle.sets.specs.Sets.{member}
 use Rattle.sets.proofs.Cases.{both, clash, either, or-right, not-so}
-use Rattle.sets.proofs.Members.{member-head}
-use Rattle.ranking.specs.declared.Pick.{Pick}
-use Rattle.ranking.specs.Ranking.{Ranking, Strict, choice, outranked, unsafe, picked}
+use Rattle.ranking.specs.Ranking.{Strict, choice, outranked, unsafe, pickOf, picked}
 use Rattle.ranking.specs.Methods.{ring}
 use Rattle.ranking.proofs.Instances.{ring-strict}
 use Rattle.ranking.proofs.Choice.{choice-member, choice-tops, choice-only, outranked-by, outranked-has}
@@ -99,7 +97,7 @@ module _ (working horizon held : List ℕ) (p s : ℕ) (hp : p < 2 ^ 32) (works 
     pub owner-gives : gives (entryOf working y) ≡ picked (ring p) working horizon
     owner-gives =
         let (a, b) = both (member y working) own standby in
-        λ i. record { server = a i; flag = (b ∙ sym (unsafe-outranked (ring p) S s working horizon works)) i }
+        λ i. pickOf (a i) ((b ∙ sym (unsafe-outranked (ring p) S s working horizon works)) i)
 
   -- THE RING'S CORRECTNESS
   pub ring-reads : (old : List Entry) → gives (entryRead (length held) p (drawn held working old)) ≡ picked (ring p) working horizon

@@ -1,17 +1,16 @@
 -- Loops over keys, and over servers with their states, at an index: what is left from there on decides the whole, and the ways on.
 use Prim.Native.Nat.{ℕ, suc, _+_, _-_, _<_, _≤_}
-use mathlib.Core.Bool.{Bool, true, false, cond}
-use mathlib.Core.List.{List, [], _∷_, _++_, append-nil}
+use mathlib.Core.Bool.{Bool, true, false}
+use mathlib.Core.List.{List, _∷_, _++_, map, append-nil}
 use mathlib.Core.Path.{_≡_, refl, sym, ap, _∙_}
 use native.Mathlib.Numerals.{add-one}
 use native.Mathlib.Omega.{arith}
-use lib.Dec.{eqb, leb}
 use lib.ListN.{length, getD, take, drop, set, length-set, drop-of-length-le}
 use lib.Seq.{drop-cons, take-suc-set, append-snoc}
-use borrow.Author.Tests.{eq-eqb, ne-eqb, le-leb, lt-leb}
+use borrow.Author.Tests.{eq-eqb, ne-eqb}
 use Rattle.sets.specs.Sets.{member, inState}
-use Rattle.sets.proofs.States.{inState-here, inState-other, inState-end, inState-short}
-use Rattle.ringplan.specs.Keys.{keySought}
+use Rattle.ranking.proofs.Loop.{left-here, left-other, left-end, left-short}
+use Rattle.ringplan.specs.Keys.{keyOf}
 
 -- whether a key is among others
 module _ (k : ℕ) (l : List ℕ) (i : ℕ) (W : Bool) (so : member k (drop i l) ≡ W) where
@@ -24,52 +23,47 @@ module _ (k : ℕ) (l : List ℕ) (i : ℕ) (W : Bool) (so : member k (drop i l)
   pub among-end : length l ≤ i → false ≡ W
   among-end h = rw (drop-of-length-le l {i = i} h) at so
 
--- the first key that isn't below a bound
-module _ (bound d : ℕ) (l : List ℕ) (i W : ℕ) (so : keySought bound (drop i l) d ≡ W) where
-  sought-step : i < length l → keySought bound (drop i l) d ≡ cond (leb bound (getD l i 0)) (getD l i 0) (keySought bound (drop (i + 1) l) d)
-  unfolding keySought
-  sought-step h = rw (add-one, drop-cons l i 0 h)
-
-  pub sought-here : i < length l → bound ≤ getD l i 0 → getD l i 0 ≡ W
-  sought-here h e = rw (sought-step h, le-leb bound (getD l i 0) e) at so
-
-  pub sought-more : i < length l → getD l i 0 < bound → keySought bound (drop (i + 1) l) d ≡ W
-  sought-more h e = rw (sought-step h, lt-leb bound (getD l i 0) e) at so
-
-  pub sought-end : length l ≤ i → d ≡ W
-  unfolding keySought
-  sought-end h = rw (drop-of-length-le l {i = i} h) at so
-
--- the working ones of the first i servers stand in the first n places of a list
-pub record Collecting (ss xs list : List ℕ) (n i : ℕ) : Type 0 where
+-- the keys of the working ones of the first i servers stand in the first n places of a list
+pub record Collecting (ss xs keys : List ℕ) (n i : ℕ) : Type 0 where
   pub within : i ≤ length ss
   pub few : n ≤ i
-  pub sized : length list ≡ 64
-  pub so : take n list ++ inState 1 (drop i ss) (drop i xs) ≡ inState 1 ss xs
+  pub sized : length keys ≡ 64
+  pub so : take n keys ++ map keyOf (inState 1 (drop i ss) (drop i xs)) ≡ map keyOf (inState 1 ss xs)
 
-pub collect-none : (ss xs list : List ℕ) → length list ≡ 64 → Collecting ss xs list 0 0
-collect-none ss xs list e = record { within = omega arith; few = omega arith; sized = e; so = refl }
+pub collect-none : (ss xs keys : List ℕ) → length keys ≡ 64 → Collecting ss xs keys 0 0
+collect-none ss xs keys e = record { within = omega arith; few = omega arith; sized = e; so = refl }
 
-module _ (ss xs list : List ℕ) (n i : ℕ) (c : Collecting ss xs list n i) where
-  pub collect-here : length ss ≤ 64 → i < length ss → i < length xs → getD xs i 0 ≡ 1 → Collecting ss xs (set list n (getD ss i 0)) (n + 1) (i + 1)
-  collect-here small h g e =
-      let inside : n < length list = omega (arith, c .few, c .sized) in
+module _ (ss xs keys : List ℕ) (n i : ℕ) (c : Collecting ss xs keys n i) where
+  -- what the places and the servers still to come make together
+  worth : List ℕ → List ℕ
+  worth l = take n keys ++ map keyOf l
+
+  pub collect-here : (k : ℕ) → k ≡ keyOf (getD ss i 0) → length ss ≤ 64 → i < length ss → i < length xs → getD xs i 0 ≡ 1
+      → Collecting ss xs (set keys n k) (n + 1) (i + 1)
+  unfolding worth
+  collect-here k q small h g e =
+      let inside : n < length keys = omega (arith, c .few, c .sized) in
+      let rest = map keyOf (inState 1 (drop (i + 1) ss) (drop (i + 1) xs)) in
       record {
         within = omega arith;
         few = omega (arith, c .few);
-        sized = length-set list n (getD ss i 0) ∙ c .sized;
+        sized = length-set keys n k ∙ c .sized;
         so =
-            ap (λ (r : List ℕ). r ++ inState 1 (drop (i + 1) ss) (drop (i + 1) xs)) (ap (λ (m : ℕ). take m (set list n (getD ss i 0))) (add-one n) ∙ take-suc-set list n (getD ss i 0) inside)
-            ∙ append-snoc (take n list) (getD ss i 0) (inState 1 (drop (i + 1) ss) (drop (i + 1) xs))
-            ∙ (rw (inState-here 1 ss xs i h g e) at (c .so));
+            ap (λ (r : List ℕ). r ++ rest) (ap (λ (m : ℕ). take m (set keys n k)) (add-one n) ∙ take-suc-set keys n k inside)
+            ∙ append-snoc (take n keys) k rest
+            ∙ ap (λ (x : ℕ). take n keys ++ (x ∷ rest)) q
+            ∙ left-here worth 1 ss xs i _ (c .so) h g e;
       }
 
-  pub collect-other : i < length ss → i < length xs → (getD xs i 0 ≡ 1 → ⊥) → Collecting ss xs list n (i + 1)
+  pub collect-other : i < length ss → i < length xs → (getD xs i 0 ≡ 1 → ⊥) → Collecting ss xs keys n (i + 1)
+  unfolding worth
   collect-other h g e =
-      record { within = omega arith; few = omega (arith, c .few); sized = c .sized; so = rw (inState-other 1 ss xs i h g e) at (c .so) }
+      record { within = omega arith; few = omega (arith, c .few); sized = c .sized; so = left-other worth 1 ss xs i _ (c .so) h g e }
 
-  pub collect-end : length ss ≤ i → take n list ≡ inState 1 ss xs
-  collect-end h = sym (append-nil (take n list)) ∙ (rw (inState-end 1 ss xs i h) at (c .so))
+  pub collect-end : length ss ≤ i → take n keys ≡ map keyOf (inState 1 ss xs)
+  unfolding worth
+  collect-end h = sym (append-nil (take n keys)) ∙ left-end worth 1 ss xs i _ (c .so) h
 
-  pub collect-short : length xs ≤ i → take n list ≡ inState 1 ss xs
-  collect-short h = sym (append-nil (take n list)) ∙ (rw (inState-short 1 ss xs i h) at (c .so))
+  pub collect-short : length xs ≤ i → take n keys ≡ map keyOf (inState 1 ss xs)
+  unfolding worth
+  collect-short h = sym (append-nil (take n keys)) ∙ left-short worth 1 ss xs i _ (c .so) h

@@ -1,12 +1,16 @@
 // The ring's entries, computed for the servers held and their states: code on plain parameters.
 ghost use mathlib.Core.Path.{_≡_};
-ghost use mathlib.Core.List.{map};
-ghost use Prim.Native.Nat.{_<_, _≤_, _+_};
-ghost use lib.ListN.{length, getD, take, replicate};
+ghost use mathlib.Core.List.{List, map};
+ghost use Prim.Native.Nat.{ℕ, _<_, _≤_, _+_, _^_};
+ghost use lib.ListN.{length, take, replicate};
+ghost use Rattle.hash.specs.Hash.{position as position-of, distance};
 ghost use Rattle.sets.specs.Sets.{member, inState};
-ghost use Rattle.ringplan.specs.Plan.{arranged, planned};
-ghost use Rattle.ringplan.specs.Keys.{keyOf, keyServer, keyPlaced, Rising, keySought, keyEntry};
+ghost use Rattle.ranking.specs.Best.{bestOf};
+ghost use Rattle.ranking.specs.Methods.{ring as ring-at};
+ghost use Rattle.ringplan.specs.Plan.{arranged, entryOf, planned};
+ghost use Rattle.ringplan.specs.Keys.{Fit, keyOf, keyPosition, keyServer, keyPlaced, Rising};
 ghost use Rattle.ring.specs.Ring.{blank};
+use ranking::Best;
 use ring::Entry;
 
 // A server's place in the ring's order as one number: its position, and below it the number counted down from the highest.
@@ -50,36 +54,36 @@ fn arrange(servers: &[u32]) -> [u64; 64]
     order
 }
 
-// Some servers: the first `held` of 64 places.
-struct Some {
-    servers: [u32; 64],
+// The keys of the working servers: the first `held` of 64 places.
+struct AtWork {
+    keys: [u64; 64],
     held: usize,
 }
 
-// The working ones of at most 64 servers.
-fn working(servers: &[u32], states: &[u8]) -> Some
+// The keys of the working ones of at most 64 servers.
+fn working(servers: &[u32], states: &[u8]) -> AtWork
     requires { ⌜ length (now servers) ≤ 64 ⌝ }
-    ensures { λ r. ⌜ (r .held ≤ 64) × ((length (r .servers) ≡ 64)
-        × (take (r .held) (r .servers) ≡ inState 1 (now (servers .entry)) (now (states .entry)))) ⌝ }
+    ensures { λ r. ⌜ (r .held ≤ 64) × ((length (r .keys) ≡ 64)
+        × (take (r .held) (r .keys) ≡ map keyOf (inState 1 (now (servers .entry)) (now (states .entry))))) ⌝ }
 {
-    let mut list = [0u32; 64];
+    let mut keys = [0u64; 64];
     let mut n = 0;
     let mut i = 0;
     while i < servers.len() {
         if states.len() <= i {
-            return Some {
-                servers: list,
+            return AtWork {
+                keys: keys,
                 held: n,
             };
         }
         if states[i] == 1 {
-            list[n] = servers[i];
+            keys[n] = key(servers[i]);
             n += 1;
         }
         i += 1;
     }
-    Some {
-        servers: list,
+    AtWork {
+        keys: keys,
         held: n,
     }
 }
@@ -98,19 +102,11 @@ fn among(keys: &[u64], key: u64) -> bool
     false
 }
 
-// The first key that is not below a bound, else the first of all.
-fn seek(keys: &[u64], bound: u64) -> u64
-    requires { ⌜ 0 < length (now keys) ⌝ }
-    ensures { λ r. ⌜ r ≡ keySought bound (now (keys .entry)) (getD (now (keys .entry)) 0 0) ⌝ }
+// The position in a key.
+fn position_of(key: u64) -> u32
+    ensures { λ r. ⌜ r ≡ keyPosition key ⌝ }
 {
-    let mut i = 0;
-    while i < keys.len() {
-        if bound <= keys[i] {
-            return keys[i];
-        }
-        i += 1;
-    }
-    keys[0]
+    (key / 4294967296) as u32
 }
 
 // The server of a key.
@@ -120,11 +116,27 @@ fn server_of(key: u64) -> u32
     (4294967295 - key % 4294967296) as u32
 }
 
-// The entry that the server of a key owns, with the keys of the working servers in order.
-fn entry_for(working: &[u64], key: u64) -> Entry
-    ensures { λ r. ⌜ r ≡ keyEntry (now (working .entry)) key ⌝ }
+// The working server nearest clockwise from a point, with its distance: the one that a horizon server's entry at that point names.
+fn substitute(working: &[u64], point: u32) -> Best
+    ensures { λ r. ⌜ ((w : List ℕ) → Fit w → now (working .entry) ≡ map keyOf w
+        → r ≡ bestOf (ring-at point) (λ s. distance (position-of s) point) w) ⌝ }
 {
-    let position = (key / 4294967296) as u32;
+    let mut best = ranking::none_yet();
+    let mut i = 0;
+    while i < working.len() {
+        let key = working[i];
+        let distance = hash::distance(position_of(key), point);
+        best = ranking::keep_nearer(best, server_of(key), distance);
+        i += 1;
+    }
+    best
+}
+
+// The entry that the server of a key owns, with the keys of the working servers. Where none works the substitute is server 0.
+fn entry_for(working: &[u64], key: u64) -> Entry
+    ensures { λ r. ⌜ ((w : List ℕ) (s : ℕ) → Fit w → s < 2 ^ 32 → now (working .entry) ≡ map keyOf w → key ≡ keyOf s → r ≡ entryOf w s) ⌝ }
+{
+    let position = position_of(key);
     if among(working, key) {
         return Entry {
             position: position,
@@ -132,18 +144,11 @@ fn entry_for(working: &[u64], key: u64) -> Entry
             track: 0,
         };
     }
-    if working.len() == 0 {
-        return Entry {
-            position: position,
-            server: 0,
-            track: 0,
-        };
-    }
-    let next = seek(working, key / 4294967296 * 4294967296);
+    let best = substitute(working, position);
     Entry {
         position: position,
-        server: server_of(next),
-        track: 1,
+        server: best.server,
+        track: best.any as u8,
     }
 }
 
@@ -167,10 +172,9 @@ pub fn plan(servers: &[u32], states: &[u8]) -> [Entry; 64]
     if 64 < servers.len() {
         return plan;
     }
-    let some = working(servers, states);
-    let held = some.held;
-    let at_work = some.servers;
-    let keys = arrange(&at_work[..held]);
+    let at_work = working(servers, states);
+    let held = at_work.held;
+    let keys = at_work.keys;
     let order = arrange(servers);
     let mut i = 0;
     while i < servers.len() {

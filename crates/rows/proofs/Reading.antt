@@ -10,7 +10,7 @@ use lib.Dec.{eqb}
 use lib.ListN.{length, getD, drop, replicate}
 use borrow.Author.Tests.{ne-eqb}
 use Rattle.ranking.specs.declared.Pick.{Pick}
-use Rattle.ranking.specs.Ranking.{unsafe, picked}
+use Rattle.ranking.specs.Ranking.{unsafe, pickOf, picked}
 use Rattle.ranking.specs.Methods.{inRow}
 use Rattle.rows.specs.Rows.{Rows, inUse, filled, rowAt, rowRead}
 use Rattle.rows.proofs.Filling.{both-are}
@@ -21,7 +21,7 @@ flag-back : (u : Bool) {x : ℕ} → x ≡ cond u 1 0 → not (eqb x 0) ≡ u
 flag-back true e = rw e
 flag-back false e = rw e
 
-pick-is : {s t : ℕ} {f g : Bool} → s ≡ t → f ≡ g → _≡_ {A = Pick} (record { server = s; flag = f }) (record { server = t; flag = g })
+pick-is : {s t : ℕ} {f g : Bool} → s ≡ t → f ≡ g → pickOf s f ≡ pickOf t g
 pick-is p q = cc
 
 -- of what the rows held before, only the number in use and those past it count

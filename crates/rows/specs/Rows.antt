@@ -1,10 +1,11 @@
 -- Document 01, "Rows and ring": the rows are a lent list of numbers with flag bytes beside it.
 use Prim.Native.Nat.{ℕ, zero, suc, _%_, min}
-use mathlib.Core.Bool.{Bool, true, false, cond, not}
+use mathlib.Core.Bool.{false, cond, not}
 use mathlib.Core.List.{List, [], _∷_, _++_}
 use lib.Dec.{eqb}
 use lib.ListN.{length, getD, drop, replicate}
 use Rattle.ranking.specs.declared.Pick.{Pick}
+use Rattle.ranking.specs.Ranking.{pickOf}
 use Rattle.ranking.specs.Methods.{rowServer, rowFlag}
 
 -- rows and flags together
@@ -44,8 +45,8 @@ cleared count rows =
 
 -- a row as a packet reads it: "A flag byte other than 0 counts as set."
 abbrev pub rowAt : ℕ → Rows → Pick
-rowAt r rows = record { server = getD (rows .servers) r 0; flag = not (eqb (getD (rows .flags) r 0) 0) }
+rowAt r rows = pickOf (getD (rows .servers) r 0) (not (eqb (getD (rows .flags) r 0) 0))
 
 -- "the row is F(key) modulo the number of rows": f is F(key); with no rows nothing is read
 unfoldable pub rowRead : ℕ → ℕ → Rows → Pick
-rowRead count f rows = cond (eqb count 0) (record { server = 0; flag = false }) (rowAt (f % count) rows)
+rowRead count f rows = cond (eqb count 0) (pickOf 0 false) (rowAt (f % count) rows)

@@ -1,11 +1,11 @@
 -- Document 01, "What each event does" and "Refusal numbers": what an event record does to the lent buffers and the roster, for every input.
-use Prim.Native.Nat.{ℕ, _%_, _^_}
+use Prim.Native.Nat.{ℕ, _%_}
 use mathlib.Core.Bool.{Bool, true, false, cond, not, _&&_, _||_}
 use mathlib.Core.List.{List, [], _∷_}
 use mathlib.Core.Path.{_≡_}
 use lib.Dec.{eqb, leb, ltb}
 use lib.ListN.{length}
-use Rattle.hash.specs.Hash.{F}
+use Rattle.hash.specs.Hash.{F, digest}
 use Rattle.ranking.specs.declared.Pick.{Pick}
 use Rattle.ranking.specs.Ranking.{picked}
 use Rattle.ranking.specs.Methods.{hrw}
@@ -173,7 +173,7 @@ pickBy f spot st =
     (rowRead (st .roster .settings .rows) f (rowsOf st))
     (cond (eqb (st .roster .settings .method) 2)
     (gives spot)
-    (picked (hrw (f % 2 ^ 31)) (workingSet (st .roster)) (horizon (st .roster))))
+    (picked (hrw (digest f)) (workingSet (st .roster)) (horizon (st .roster))))
 
 abbrev pub sizedFor : ℕ → State → Bool
 sizedFor ringLength st = sizesRight (length (st .table)) (length (st .rows)) (length (st .flags)) ringLength

@@ -1,5 +1,5 @@
 -- `hrw::choose` meets its contract.
-use Prim.Native.Nat.{ℕ, _≤_, _<_, _-_}
+use Prim.Native.Nat.{_≤_, _<_, _-_}
 use mathlib.Core.Logic.{⊎-elim}
 use mathlib.Core.Path.{_≡_, _∙_}
 use native.Mathlib.Omega.{arith}
@@ -9,7 +9,7 @@ use Rattle.sets.specs.Sets.{inState}
 use Rattle.ranking.specs.Methods.{heavier, hrw}
 use Rattle.ranking.specs.Best.{kept, bestOf}
 use Rattle.ranking.proofs.Scan.{keptAll, keptAll-best}
-use Rattle.ranking.proofs.Loop.{keep-here, keep-other, keep-end, keep-short}
+use Rattle.ranking.proofs.Loop.{left-here, left-other, left-end, left-short}
 use borrow.Author.Needs.{needs}
 use Rattle.hrw.proofs.choose.Statement.{statement}
 use Rattle.hrw.proofs.choose.Tie as tie
@@ -29,10 +29,11 @@ loop-holds c =
     (search needs, rw (c .none-yet .ensures) (keptAll-best heavier (λ s. weight s (p .digest)) (inState 1 (p .servers .now) (p .states .now))))
 
 returns : tie.Need-returns Inv-loop μ-loop
+unfolding keptAll
 returns c =
     let l = c .before .before in
     let p = l .before .before .before .before .args in
-    keep-short heavier (λ s. weight s (p .digest)) 1 (p .servers .now) (p .states .now) (l .loop .i) (l .loop .best) _ (l .loop .inv .1) (omega arith)
+    left-short (keptAll heavier (λ s. weight s (p .digest)) (l .loop .best)) 1 (p .servers .now) (p .states .now) (l .loop .i) _ (l .loop .inv .1) (omega arith)
 
 shared-slice-read-if2 : tie.Need-shared-slice-read-if2 Inv-loop μ-loop
 shared-slice-read-if2 c = search needs
@@ -56,19 +57,26 @@ loop-less : tie.Need-loop-less Inv-loop μ-loop
 loop-less c = search needs
 
 loop-again : tie.Need-loop-again Inv-loop μ-loop
+unfolding keptAll
 loop-again c =
     let l = c .before .before .before .before in
     let p = l .before .before .before .before .args in
     let h : l .loop .i < length (p .servers .now) = omega arith in
     let g : l .loop .i < length (p .states .now) = omega arith in
-    let m : ℕ → ℕ = λ s. weight s (p .digest) in
-    (search needs, ⊎-elim (λ w. rw (w .4 ∙ w .3 .ensures, w .2 .ensures) (keep-here heavier m 1 (p .servers .now) (p .states .now) (l .loop .i) (l .loop .best) _ (l .loop .inv .1) h g (w .0 .taken))) (λ w. rw (w .1) (keep-other heavier m 1 (p .servers .now) (p .states .now) (l .loop .i) (l .loop .best) _ (l .loop .inv .1) h g (w .0 .left))) (c .if2 .came))
+    let worth = keptAll heavier (λ s. weight s (p .digest)) (l .loop .best) in (
+      search needs,
+      ⊎-elim
+          (λ w. rw (w .4 ∙ w .3 .ensures, w .2 .ensures) (left-here worth 1 (p .servers .now) (p .states .now) (l .loop .i) _ (l .loop .inv .1) h g (w .0 .taken)))
+          (λ w. rw (w .1) (left-other worth 1 (p .servers .now) (p .states .now) (l .loop .i) _ (l .loop .inv .1) h g (w .0 .left)))
+          (c .if2 .came),
+    )
 
 returns-2 : tie.Need-returns-2 Inv-loop μ-loop
+unfolding keptAll
 returns-2 c =
     let l = c .before in
     let p = l .before .before .before .before .args in
-    keep-end heavier (λ s. weight s (p .digest)) 1 (p .servers .now) (p .states .now) (l .loop .i) (l .loop .best) _ (l .loop .inv .1) (omega arith)
+    left-end (keptAll heavier (λ s. weight s (p .digest)) (l .loop .best)) 1 (p .servers .now) (p .states .now) (l .loop .i) _ (l .loop .inv .1) (omega arith)
 
 pub choose-spec : {M : Type 1} → statement M
 choose-spec =

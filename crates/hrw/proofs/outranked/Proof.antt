@@ -8,7 +8,7 @@ use Rattle.hash.specs.Hash.{weight}
 use Rattle.sets.specs.Sets.{inState}
 use Rattle.ranking.specs.Methods.{heavier}
 use Rattle.ranking.specs.Best.{beaten}
-use Rattle.ranking.proofs.Loop.{search-found, search-missed, search-other, search-end, search-short}
+use Rattle.ranking.proofs.Loop.{left-other, left-end, left-short, search-found, search-missed}
 use borrow.Author.Needs.{needs}
 use Rattle.hrw.proofs.outranked.Statement.{statement}
 use Rattle.hrw.proofs.outranked.Tie as tie
@@ -23,10 +23,11 @@ loop-holds : tie.Need-loop-holds Inv-loop μ-loop
 loop-holds c = (search needs, refl)
 
 returns : tie.Need-returns Inv-loop μ-loop
+unfolding beaten
 returns c =
     let l = c .before .before in
     let p = l .before .before .before .args in
-    search-short heavier (λ s. weight s (p .digest)) 2 (p .servers .now) (p .states .now) (l .loop .i) (p .best) _ (l .loop .inv .1) (omega arith)
+    left-short (beaten heavier (λ s. weight s (p .digest)) (p .best)) 2 (p .servers .now) (p .states .now) (l .loop .i) _ (l .loop .inv .1) (omega arith)
 
 shared-slice-read-if2 : tie.Need-shared-slice-read-if2 Inv-loop μ-loop
 shared-slice-read-if2 c = search needs
@@ -48,7 +49,7 @@ returns-2 c =
     let v = c .before in
     let l = v .before .before .before .before .before .before .before in
     let p = l .before .before .before .args in
-    search-found heavier (λ s. weight s (p .digest)) 2 (p .servers .now) (p .states .now) (l .loop .i) (p .best) _ (l .loop .inv .1) (omega arith) (omega arith) (v .before .before .before .if2 .taken)
+    search-found heavier (λ s. weight s (p .digest)) (p .best) 2 (p .servers .now) (p .states .now) (l .loop .i) _ (l .loop .inv .1) (omega arith) (omega arith) (v .before .before .before .if2 .taken)
     (sym (rw (v .before .weight .ensures) at (v .heavier .ensures)) ∙ c .if3 .taken)
 
 add-i : tie.Need-add-i Inv-loop μ-loop
@@ -66,16 +67,17 @@ loop-again c =
     let m : ℕ → ℕ = λ s. weight s (p .digest) in (
       search needs,
       ⊎-elim
-          (λ w. search-missed heavier m 2 (p .servers .now) (p .states .now) (l .loop .i) (p .best) _ (l .loop .inv .1) h g (w .0 .taken) (sym (rw (w .2 .ensures) at (w .3 .ensures)) ∙ w .4 .left))
-          (λ w. search-other heavier m 2 (p .servers .now) (p .states .now) (l .loop .i) (p .best) _ (l .loop .inv .1) h g (w .left))
+          (λ w. search-missed heavier m (p .best) 2 (p .servers .now) (p .states .now) (l .loop .i) _ (l .loop .inv .1) h g (w .0 .taken) (sym (rw (w .2 .ensures) at (w .3 .ensures)) ∙ w .4 .left))
+          (λ w. left-other (beaten heavier m (p .best)) 2 (p .servers .now) (p .states .now) (l .loop .i) _ (l .loop .inv .1) h g (w .left))
           (c .if2 .came),
     )
 
 returns-3 : tie.Need-returns-3 Inv-loop μ-loop
+unfolding beaten
 returns-3 c =
     let l = c .before in
     let p = l .before .before .before .args in
-    search-end heavier (λ s. weight s (p .digest)) 2 (p .servers .now) (p .states .now) (l .loop .i) (p .best) _ (l .loop .inv .1) (omega arith)
+    left-end (beaten heavier (λ s. weight s (p .digest)) (p .best)) 2 (p .servers .now) (p .states .now) (l .loop .i) _ (l .loop .inv .1) (omega arith)
 
 pub outranked-spec : {M : Type 1} → statement M
 outranked-spec =

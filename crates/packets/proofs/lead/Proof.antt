@@ -1,7 +1,8 @@
 -- `packets::lead` meets its contract.
-use Prim.Native.Nat.{_%_, _^_}
 use mathlib.Core.Bool.{true, false}
 use mathlib.Core.Path.{_≡_, sym, ap, _∙_}
+use Rattle.hash.specs.Hash.{digest}
+use Rattle.sets.specs.Sets.{inState}
 use Rattle.ranking.specs.declared.Pick.{Pick}
 use Rattle.ranking.specs.Ranking.{picked}
 use Rattle.ranking.specs.Methods.{hrw}
@@ -22,6 +23,9 @@ known-requires c κs = search needs
 enum-known-found-2 : tie.Need-enum-known-found-2
 enum-known-found-2 c = search needs
 
+digest-requires : tie.Need-digest-requires
+digest-requires c κs = search needs
+
 pick-requires : tie.Need-pick-requires
 pick-requires c κs = search needs
 
@@ -29,14 +33,16 @@ returns : tie.Need-returns
 returns c =
     λ r l s.
     let k = c .before .before in
-    let g = k .before .before .before .before in
+    let g = k .before .before .before .before .before in
     let x = g .found2 .given in
     let p = g .before .before .before .before .before .before .before .args in
     let st = stateWith (p .table .now) (p .rows .now) (p .flags .now) r in
-    let q = best-of (p .f % 2 ^ 31) r (p .servers .now) (p .states .now) (k .pick .result) l (k .pick .ensures) in
-    let h : picked (hrw (p .f % 2 ^ 31)) (workingSet r) (horizon r) ≡ pickBy (p .f) (p .spot) st =
-    sym q ∙ pick-hrw (p .f) (p .spot) (p .table .now) (p .rows .now) (p .flags .now) r (l .sound) (p .settings) s (k .pick .result) (p .servers .now) (p .states .now) l (k .before .if1 .taken) (k .pick .ensures) in
-    rw (x .1) (chosen-none (p .key) (p .table .now) (p .rows .now) (p .flags .now) (p .f % 2 ^ 31) r (l .sound) (x .0 .0) (ap (λ (y : Pick). y .server) (sym q) ∙ c .if2 .taken)
+    let got : k .pick .result ≡ picked (hrw (digest (p .f))) (inState 1 (p .servers .now) (p .states .now)) (inState 2 (p .servers .now) (p .states .now)) =
+    rw (k .before .digest .ensures) at (k .pick .ensures) in
+    let q = best-of (digest (p .f)) r (p .servers .now) (p .states .now) (k .pick .result) l got in
+    let h : picked (hrw (digest (p .f))) (workingSet r) (horizon r) ≡ pickBy (p .f) (p .spot) st =
+    sym q ∙ pick-hrw (p .f) (p .spot) (p .table .now) (p .rows .now) (p .flags .now) r (l .sound) (p .settings) s (k .pick .result) (p .servers .now) (p .states .now) l (k .before .before .if1 .taken) got in
+    rw (x .1) (chosen-none (p .key) (p .table .now) (p .rows .now) (p .flags .now) (digest (p .f)) r (l .sound) (x .0 .0) (ap (λ (y : Pick). y .server) (sym q) ∙ c .if2 .taken)
     ∙ ap (λ (y : Pick). judged (asksKey 1 (p .key)) (record { found = false; reads = x .0 .0 }) y st) h)
 
 settle-requires : tie.Need-settle-requires
@@ -51,16 +57,18 @@ returns-2 c =
     let w = c .before .before in
     let e = w .before .before in
     let k = e .before .before in
-    let g = k .before .before .before .before in
+    let g = k .before .before .before .before .before in
     let x = g .found2 .given in
     let p = g .before .before .before .before .before .before .before .args in
     let st = stateWith (p .table .now) (p .rows .now) (p .flags .now) r in
-    let q = best-of (p .f % 2 ^ 31) r (p .servers .now) (p .states .now) (k .pick .result) l (k .pick .ensures) in
-    let h : picked (hrw (p .f % 2 ^ 31)) (workingSet r) (horizon r) ≡ pickBy (p .f) (p .spot) st =
-    sym q ∙ pick-hrw (p .f) (p .spot) (p .table .now) (p .rows .now) (p .flags .now) r (l .sound) (p .settings) s (k .pick .result) (p .servers .now) (p .states .now) l (k .before .if1 .taken) (k .pick .ensures) in
+    let got : k .pick .result ≡ picked (hrw (digest (p .f))) (inState 1 (p .servers .now) (p .states .now)) (inState 2 (p .servers .now) (p .states .now)) =
+    rw (k .before .digest .ensures) at (k .pick .ensures) in
+    let q = best-of (digest (p .f)) r (p .servers .now) (p .states .now) (k .pick .result) l got in
+    let h : picked (hrw (digest (p .f))) (workingSet r) (horizon r) ≡ pickBy (p .f) (p .spot) st =
+    sym q ∙ pick-hrw (p .f) (p .spot) (p .table .now) (p .rows .now) (p .flags .now) r (l .sound) (p .settings) s (k .pick .result) (p .servers .now) (p .states .now) l (k .before .before .if1 .taken) got in
     rw (x .1) (w .settle .ensures (p .rows .now) (p .flags .now) r
     ∙ ap (λ (y : Pick). packet (p .key) (record { found = false; reads = x .0 .0 }) y st) q
-    ∙ chosen-on (p .key) (p .table .now) (p .rows .now) (p .flags .now) (p .f % 2 ^ 31) r (l .sound) (x .0 .0) (λ z. e .if2 .left (ap (λ (y : Pick). y .server) q ∙ z))
+    ∙ chosen-on (p .key) (p .table .now) (p .rows .now) (p .flags .now) (digest (p .f)) r (l .sound) (x .0 .0) (λ z. e .if2 .left (ap (λ (y : Pick). y .server) q ∙ z))
     ∙ ap (λ (y : Pick). judged (asksKey 1 (p .key)) (record { found = false; reads = x .0 .0 }) y st) h)
 
 read-pick-requires : tie.Need-read-pick-requires
@@ -130,6 +138,7 @@ lead-spec =
     enum-known-found
     known-requires
     enum-known-found-2
+    digest-requires
     pick-requires
     returns
     settle-requires

@@ -1,13 +1,16 @@
 -- `ringplan::entry_for` meets its contract.
-use mathlib.Core.Path.{sym, _∙_}
-use native.Mathlib.Omega.{arith}
-use Rattle.ringplan.proofs.Planning.{entry-own, entry-none, entry-next}
+use mathlib.Core.Bool.{true, false}
+use mathlib.Core.List.{map}
+use mathlib.Core.Path.{_≡_, sym, ap, _∙_}
+use Rattle.sets.specs.Sets.{member}
+use Rattle.ringplan.specs.Keys.{keyOf}
+use Rattle.ringplan.proofs.Keys.{entry-own, entry-away}
 use borrow.Author.Needs.{needs}
 use Rattle.ringplan.proofs.entry_for.Statement.{statement}
 use Rattle.ringplan.proofs.entry_for.Tie as tie
 
-cast-position : tie.Need-cast-position
-cast-position c = search needs
+position-of-requires : tie.Need-position-of-requires
+position-of-requires c κs = search needs
 
 among-requires : tie.Need-among-requires
 among-requires c κs = search needs
@@ -16,44 +19,34 @@ server-of-requires : tie.Need-server-of-requires
 server-of-requires c κs = search needs
 
 returns : tie.Need-returns
-returns c =
+returns c w s f h q k =
     let a = c .before .before in
-    let p = a .before .before .args in
-    entry-own (p .working .now) (p .key) _ (c .server-of .ensures) (sym (a .among .ensures) ∙ c .before .if1 .taken)
+    let r = a .before in
+    entry-own w s f h (r .position-of .result) (c .server-of .result) (rw k at (r .position-of .ensures)) (rw k at (c .server-of .ensures))
+    (rw (k, q) at (sym (a .among .ensures) ∙ c .before .if1 .taken))
+
+substitute-requires : tie.Need-substitute-requires
+substitute-requires c κs = search needs
+
+cast-t7 : tie.Need-cast-t7
+cast-t7 c = search needs
 
 returns-2 : tie.Need-returns-2
-returns-2 c =
-    let a = c .before .before in
-    let p = a .before .before .args in
-    entry-none (p .working .now) (p .key) (sym (a .among .ensures) ∙ c .before .if1 .left) (c .if2 .taken)
-
-mul-seek : tie.Need-mul-seek
-mul-seek c = search needs
-
-seek-requires : tie.Need-seek-requires
-seek-requires c κs = search needs
-
-server-of-requires-2 : tie.Need-server-of-requires-2
-server-of-requires-2 c κs = search needs
-
-returns-3 : tie.Need-returns-3
-returns-3 c =
-    let k = c .before in
-    let e = k .before in
-    let a = e .before .before in
-    let p = a .before .before .args in
-    entry-next (p .working .now) (p .key) (k .seek .result) _ (k .seek .ensures) (c .server-of2 .ensures) (sym (a .among .ensures) ∙ e .before .if1 .left) (e .if2 .left)
+returns-2 c w s f h q k =
+    let b = c .before in
+    let a = b .before .before in
+    let r = a .before in
+    entry-away w s f h (r .position-of .result) (b .substitute .result) (rw k at (r .position-of .ensures)) (b .substitute .ensures w f q)
+    (rw (k, q) at (sym (a .among .ensures) ∙ b .before .if1 .left))
 
 pub entry-for-spec : {M : Type 1} → statement M
 entry-for-spec =
     tie.close
     (tie.spec
-    cast-position
+    position-of-requires
     among-requires
     server-of-requires
     returns
-    returns-2
-    mul-seek
-    seek-requires
-    server-of-requires-2
-    returns-3)
+    substitute-requires
+    cast-t7
+    returns-2)

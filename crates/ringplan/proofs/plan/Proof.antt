@@ -2,7 +2,7 @@
 use Prim.Native.Nat.{_≤_, _-_}
 use mathlib.Core.Path.{_≡_, sym}
 use native.Mathlib.Omega.{arith}
-use lib.ListN.{length, length-take}
+use lib.ListN.{length}
 use lib.Seq.{length-take-le}
 use Rattle.sets.specs.Sets.{inState}
 use Rattle.ringplan.proofs.Planning.{Ready, ready, LaidOut, laid-none, laid-more, laid-done, planned-none}
@@ -11,8 +11,7 @@ use Rattle.ringplan.proofs.plan.Statement.{statement}
 use Rattle.ringplan.proofs.plan.Tie as tie
 
 abbrev Inv-loop : tie.InvT-loop
-Inv-loop servers states plan₀ held keys order i₀ plan i =
-    Ready servers (inState 1 servers states) order keys held × ((length plan ≡ 64) × LaidOut servers (inState 1 servers states) plan i)
+Inv-loop servers states plan₀ held keys order i₀ plan i = Ready servers (inState 1 servers states) order keys held × (length plan ≡ 64) × LaidOut servers (inState 1 servers states) plan i
 
 abbrev μ-loop : tie.MeasureT-loop
 μ-loop servers states plan₀ held keys order i₀ plan i = length servers - i
@@ -28,25 +27,19 @@ returns c =
 working-requires : tie.Need-working-requires Inv-loop μ-loop
 working-requires c κs = search needs
 
-array-share-prefix-at-work : tie.Need-array-share-prefix-at-work Inv-loop μ-loop
-array-share-prefix-at-work c = omega (arith, c .before .working .ensures .0, c .before .working .ensures .1 .0)
-
-slice-aggregate-arrange : tie.Need-slice-aggregate-arrange Inv-loop μ-loop
-slice-aggregate-arrange c = sym (length-take-le _ _ (omega (arith, c .before .before .working .ensures .0, c .before .before .working .ensures .1 .0)))
-
 arrange-requires : tie.Need-arrange-requires Inv-loop μ-loop
-arrange-requires c κs = simp length-take (omega (arith, c .before .before .working .ensures .0))
-
-arrange-requires-2 : tie.Need-arrange-requires-2 Inv-loop μ-loop
-arrange-requires-2 c κs = search needs
+arrange-requires c κs = search needs
 
 loop-holds : tie.Need-loop-holds Inv-loop μ-loop
 loop-holds c =
-    let a = c .before in
-    let w = a .before .before .before in
+    let w = c .before .before in
     let b = w .before .before in
     let p = b .before .before .before .args in
-    (ready (p .servers .now) (p .states .now) (w .working .result .servers) (c .arrange2 .result) (a .arrange .result) (w .working .result .held) (omega arith) (λ j. omega (arith, b .before .shared-slice-known2 .given j, b .before .before .shared-slice-known .given j)) (search needs) (search needs) (w .working .ensures .1 .0) (w .working .ensures .0) (w .working .ensures .1 .1) (c .arrange2 .ensures) (a .arrange .ensures), (search needs, laid-none (p .servers .now) (inState 1 (p .servers .now) (p .states .now)) (b .blank-plan .result) (b .blank-plan .ensures)))
+    let e = w .working .ensures in (
+      ready (p .servers .now) (p .states .now) (c .arrange .result) (w .working .result .keys) (w .working .result .held) (omega arith) (λ j. omega (arith, b .before .before .shared-slice-known .given j)) (search needs) (e .1 .0) (e .0) (e .1 .1) (c .arrange .ensures),
+      search needs,
+      laid-none (p .servers .now) (inState 1 (p .servers .now) (p .states .now)) (b .blank-plan .result) (b .blank-plan .ensures),
+    )
 
 array-share-prefix-keys : tie.Need-array-share-prefix-keys Inv-loop μ-loop
 array-share-prefix-keys c = search needs
@@ -80,18 +73,20 @@ loop-less c = search needs
 loop-again : tie.Need-loop-again Inv-loop μ-loop
 loop-again c =
     let l = c .before .before .before in
-    let a2 = l .before in
-    let a = a2 .before in
-    let w = a .before .before .before in
-    let p = w .before .before .before .before .before .args in
-    (l .loop .inv .0, (search needs, rw (c .entry-for .ensures) (laid-more (p .servers .now) (inState 1 (p .servers .now) (p .states .now)) (a2 .arrange2 .result) (a .arrange .result) (w .working .result .held) (l .loop .plan) (l .loop .i) (omega arith) (l .loop .inv .0) (l .loop .inv .1 .1))))
+    let a = l .before in
+    let w = a .before .before in
+    let p = w .before .before .before .before .before .args in (
+      l .loop .inv .0,
+      search needs,
+      laid-more (p .servers .now) (inState 1 (p .servers .now) (p .states .now)) (a .arrange .result) (w .working .result .keys) (w .working .result .held) (l .loop .plan) (l .loop .i) (c .entry-for .result) (omega arith) (l .loop .inv .0) (c .entry-for .ensures) (l .loop .inv .2),
+    )
 
 returns-2 : tie.Need-returns-2 Inv-loop μ-loop
 returns-2 c =
     let l = c .before in
-    let w = l .before .before .before .before .before in
+    let w = l .before .before .before in
     let p = w .before .before .before .before .before .args in
-    laid-done (p .servers .now) (inState 1 (p .servers .now) (p .states .now)) (l .loop .plan) (l .loop .i) (l .loop .inv .0 .small) (omega arith) (l .loop .inv .1 .1)
+    laid-done (p .servers .now) (inState 1 (p .servers .now) (p .states .now)) (l .loop .plan) (l .loop .i) (l .loop .inv .0 .small) (omega arith) (l .loop .inv .2)
 
 pub plan-spec : {M : Type 1} → statement M
 plan-spec =
@@ -102,10 +97,7 @@ plan-spec =
     blank-plan-requires
     returns
     working-requires
-    array-share-prefix-at-work
-    slice-aggregate-arrange
     arrange-requires
-    arrange-requires-2
     loop-holds
     array-share-prefix-keys
     slice-aggregate-entry-for

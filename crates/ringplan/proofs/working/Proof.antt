@@ -9,36 +9,39 @@ use Rattle.ringplan.proofs.working.Statement.{statement}
 use Rattle.ringplan.proofs.working.Tie as tie
 
 abbrev Inv-loop : tie.InvT-loop
-Inv-loop servers states list₀ n₀ i₀ list n i = Collecting servers states list n i
+Inv-loop servers states keys₀ n₀ i₀ keys n i = Collecting servers states keys n i
 
 abbrev μ-loop : tie.MeasureT-loop
-μ-loop servers states list₀ n₀ i₀ list n i = length servers - i
+μ-loop servers states keys₀ n₀ i₀ keys n i = length servers - i
 
 loop-holds : tie.Need-loop-holds Inv-loop μ-loop
 loop-holds c =
-    let p = c .args in
+    let p = c .before .before .args in
     collect-none (p .servers .now) (p .states .now) _ (search needs)
 
 returns : tie.Need-returns Inv-loop μ-loop
 returns c =
     let l = c .before .before in
-    let p = l .before .args in
-    (omega arith, (l .loop .inv .sized, collect-short (p .servers .now) (p .states .now) (l .loop .list) (l .loop .n) (l .loop .i) (l .loop .inv) (omega arith)))
+    let p = l .before .before .before .args in
+    (omega arith, (l .loop .inv .sized, collect-short (p .servers .now) (p .states .now) (l .loop .keys) (l .loop .n) (l .loop .i) (l .loop .inv) (omega arith)))
 
 shared-slice-read-if2 : tie.Need-shared-slice-read-if2 Inv-loop μ-loop
 shared-slice-read-if2 c = search needs
 
-mul-list : tie.Need-mul-list Inv-loop μ-loop
-mul-list c = search needs
+mul-key : tie.Need-mul-key Inv-loop μ-loop
+mul-key c = search needs
 
-shared-slice-read-list : tie.Need-shared-slice-read-list Inv-loop μ-loop
-shared-slice-read-list c = search needs
+shared-slice-read-key : tie.Need-shared-slice-read-key Inv-loop μ-loop
+shared-slice-read-key c = search needs
 
-mul-list-2 : tie.Need-mul-list-2 Inv-loop μ-loop
-mul-list-2 c = search needs
+key-requires : tie.Need-key-requires Inv-loop μ-loop
+key-requires c κs = search needs
 
-array-write-list : tie.Need-array-write-list Inv-loop μ-loop
-array-write-list c = search needs
+mul-keys : tie.Need-mul-keys Inv-loop μ-loop
+mul-keys c = search needs
+
+array-write-keys : tie.Need-array-write-keys Inv-loop μ-loop
+array-write-keys c = search needs
 
 add-n : tie.Need-add-n Inv-loop μ-loop
 add-n c = search needs
@@ -52,20 +55,20 @@ loop-less c = search needs
 loop-again : tie.Need-loop-again Inv-loop μ-loop
 loop-again c =
     let l = c .before .before .before .before in
-    let p = l .before .args in
+    let p = l .before .before .before .args in
     let small : length (p .servers .now) ≤ 64 = omega arith in
     let h : l .loop .i < length (p .servers .now) = omega arith in
     let g : l .loop .i < length (p .states .now) = omega arith in
     ⊎-elim
-    (λ w. rw (w .2, w .3) (collect-here (p .servers .now) (p .states .now) (l .loop .list) (l .loop .n) (l .loop .i) (l .loop .inv) small h g (w .0 .taken)))
-    (λ w. rw (w .1, w .2) (collect-other (p .servers .now) (p .states .now) (l .loop .list) (l .loop .n) (l .loop .i) (l .loop .inv) h g (w .0 .left)))
+    (λ w. rw (w .3, w .4) (collect-here (p .servers .now) (p .states .now) (l .loop .keys) (l .loop .n) (l .loop .i) (l .loop .inv) (w .2 .result) (w .2 .ensures) small h g (w .0 .taken)))
+    (λ w. rw (w .1, w .2) (collect-other (p .servers .now) (p .states .now) (l .loop .keys) (l .loop .n) (l .loop .i) (l .loop .inv) h g (w .0 .left)))
     (c .if2 .came)
 
 returns-2 : tie.Need-returns-2 Inv-loop μ-loop
 returns-2 c =
     let l = c .before in
-    let p = l .before .args in
-    (omega arith, (l .loop .inv .sized, collect-end (p .servers .now) (p .states .now) (l .loop .list) (l .loop .n) (l .loop .i) (l .loop .inv) (omega arith)))
+    let p = l .before .before .before .args in
+    (omega arith, (l .loop .inv .sized, collect-end (p .servers .now) (p .states .now) (l .loop .keys) (l .loop .n) (l .loop .i) (l .loop .inv) (omega arith)))
 
 pub working-spec : {M : Type 1} → statement M
 working-spec =
@@ -76,10 +79,11 @@ working-spec =
     loop-holds
     returns
     shared-slice-read-if2
-    mul-list
-    shared-slice-read-list
-    mul-list-2
-    array-write-list
+    mul-key
+    shared-slice-read-key
+    key-requires
+    mul-keys
+    array-write-keys
     add-n
     add-i
     loop-less

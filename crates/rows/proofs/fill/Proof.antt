@@ -9,7 +9,7 @@ use Rattle.hash.specs.Hash.{weight}
 use Rattle.sets.specs.Sets.{inState}
 use Rattle.ranking.specs.Best.{beaten}
 use Rattle.ranking.specs.Methods.{heavier, rowServer, rowFlag}
-use Rattle.ranking.proofs.Loop.{search-found, search-missed, search-other, search-end, search-short}
+use Rattle.ranking.proofs.Loop.{left-other, left-end, left-short, search-found, search-missed}
 use Rattle.rows.specs.Rows.{written, filled}
 use Rattle.rows.proofs.Written.{written-none, written-more}
 use Rattle.rows.proofs.Filling.{server-is, flag-none, flag-some, both-are}
@@ -41,6 +41,7 @@ abbrev μ-loop : tie.MeasureT-loop
 flag-is : (c : tie.Joined1 Inv-search μ-search Inv-loop μ-loop) →
     let p = c .before .before .before .before .before .before .before .before .before .args in
     c .if1 .flag ≡ rowFlag (inState 1 (p .servers .now) (p .states .now)) (inState 2 (p .servers .now) (p .states .now)) (c .before .before .before .loop .r)
+unfolding beaten
 flag-is c =
     let l = c .before .before .before in
     let p = l .before .before .before .before .before .before .args in
@@ -53,15 +54,15 @@ flag-is c =
     let b = c .before .choose .result in
     let e = c .before .choose .ensures in
     ⊎-elim
-    (λ w. w .3 ∙ w .1 .inv .1 ∙ flag-some working horizon r b e false (w .0 .taken) (search-end heavier m 2 ss xs (w .1 .i) b _ (w .1 .inv .0) (w .2 .left)))
+    (λ w. w .3 ∙ w .1 .inv .1 ∙ flag-some working horizon r b e false (w .0 .taken) (left-end (beaten heavier m b) 2 ss xs (w .1 .i) _ (w .1 .inv .0) (w .2 .left)))
     (
     λ v. ⊎-elim
-    (λ w. w .4 ∙ w .1 .inv .1 ∙ flag-some working horizon r b e false (w .0 .taken) (search-short heavier m 2 ss xs (w .1 .i) b _ (w .1 .inv .0) (w .3 .taken)))
+    (λ w. w .4 ∙ w .1 .inv .1 ∙ flag-some working horizon r b e false (w .0 .taken) (left-short (beaten heavier m b) 2 ss xs (w .1 .i) _ (w .1 .inv .0) (w .3 .taken)))
     (
     λ u. ⊎-elim
     (
     λ w. let beats : heavier (m (getD ss (w .1 .i) 0)) (getD ss (w .1 .i) 0) (b .measure) (b .server) ≡ true = sym (rw (w .7 .ensures) at (w .8 .ensures)) ∙ w .9 .taken in
-    w .10 ∙ flag-some working horizon r b e true (w .0 .taken) (search-found heavier m 2 ss xs (w .1 .i) b _ (w .1 .inv .0) (w .2 .taken) (w .3 .left) (w .5 .taken) beats))
+    w .10 ∙ flag-some working horizon r b e true (w .0 .taken) (search-found heavier m b 2 ss xs (w .1 .i) _ (w .1 .inv .0) (w .2 .taken) (w .3 .left) (w .5 .taken) beats))
     (λ w. w .1 ∙ flag-none working horizon r b e (w .0 .left))
     u)
     v)
@@ -115,8 +116,8 @@ search-again c =
     let h : l .search .i < length ss = omega arith in
     let g : l .search .i < length xs = omega arith in (
       ⊎-elim
-          (λ w. search-missed heavier m 2 ss xs (l .search .i) b _ (l .search .inv .0) h g (w .0 .taken) (sym (rw (w .2 .ensures) at (w .3 .ensures)) ∙ w .4 .left))
-          (λ w. search-other heavier m 2 ss xs (l .search .i) b _ (l .search .inv .0) h g (w .left))
+          (λ w. search-missed heavier m b 2 ss xs (l .search .i) _ (l .search .inv .0) h g (w .0 .taken) (sym (rw (w .2 .ensures) at (w .3 .ensures)) ∙ w .4 .left))
+          (λ w. left-other (beaten heavier m b) 2 ss xs (l .search .i) _ (l .search .inv .0) h g (w .left))
           (c .if3 .came),
       l .search .inv .1,
       search needs,
