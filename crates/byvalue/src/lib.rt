@@ -10,7 +10,7 @@ use rules::Outcome;
 // What an event hands back here: the outcome, and the ring afterwards.
 pub struct Tried {
     pub outcome: Outcome,
-    pub ring: [Entry; 64],
+    pub ring: [Entry; ring::RING_PLACES],
 }
 
 // Does what an event record asks, on a ring that is handed in and handed back.
@@ -19,7 +19,7 @@ pub fn event(
     table: &mut [u8],
     rows: &mut [u32],
     flags: &mut [u8],
-    ring: [Entry; 64],
+    ring: [Entry; ring::RING_PLACES],
     roster: Roster,
 ) -> Tried
     ensures { λ v. ⌜ EventPromise (now («record» .entry))
@@ -39,7 +39,7 @@ pub fn start(
     table: &mut [u8],
     rows: &[u32],
     flags: &[u8],
-    ring: [Entry; 64],
+    ring: [Entry; ring::RING_PLACES],
     roster: Roster,
 ) -> Outcome
     ensures { λ o. ⌜ StartPromise

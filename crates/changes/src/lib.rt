@@ -27,13 +27,13 @@ pub fn end(found: Found, table: &mut [u8]) -> Reply
             table::remove(table, place);
             Reply::Accepted {
                 server: 0,
-                mark: 5,
+                mark: rules::RECORD_REMOVED,
                 reads: place,
             }
         }
         Found::Nothing(used) => Reply::Accepted {
             server: 0,
-            mark: 6,
+            mark: rules::NOTHING_TO_REMOVE,
             reads: used,
         },
     }
@@ -46,11 +46,11 @@ fn alter(next: Roster, rows: &mut [u32], flags: &mut [u8]) -> Reaction
         ≡ changed next t (stateWith t₀ (now (rows .entry)) (now (flags .entry)) r₀)) ⌝ }
 {
     let settings = next.settings;
-    if settings.method == 3 {
+    if settings.method == settings::ROW_TABLE {
         fill(next, rows, flags);
         return answers::taken(next, false);
     }
-    answers::taken(next, settings.method == 2)
+    answers::taken(next, settings.method == settings::RING)
 }
 
 // Fills the rows for a roster's sets.
@@ -71,7 +71,7 @@ pub fn add_working(server: u32, rows: &mut [u32], flags: &mut [u8], r: Roster) -
         → reacted v t (now (rows .exit)) (now (flags .exit))
         ≡ judged (requestBy (AddWorking server) key) found pick (stateWith t (now (rows .entry)) (now (flags .entry)) r)) ⌝ }
 {
-    if roster::state_of(r, server) != 2 {
+    if roster::state_of(r, server) != sets::STANDBY {
         return answers::refused(4, r);
     }
     alter(roster::add_working(r, server), rows, flags)
@@ -89,7 +89,7 @@ pub fn remove_working(
         → reacted v (now (table .exit)) (now (rows .exit)) (now (flags .exit))
         ≡ judged (requestBy (RemoveWorking server) key) found pick (stateWith (now (table .entry)) (now (rows .entry)) (now (flags .entry)) r)) ⌝ }
 {
-    if roster::state_of(r, server) != 1 {
+    if roster::state_of(r, server) != sets::WORKING {
         return answers::refused(5, r);
     }
     table::remove_server(table, server);
@@ -105,7 +105,7 @@ pub fn add_horizon(server: u32, rows: &mut [u32], flags: &mut [u8], r: Roster) -
     if roster::state_of(r, server) != 0 {
         return answers::refused(3, r);
     }
-    if 64 <= r.held {
+    if sets::MOST_SERVERS <= r.held {
         return answers::refused(6, r);
     }
     alter(roster::add_horizon(r, server), rows, flags)
@@ -117,7 +117,7 @@ pub fn remove_horizon(server: u32, rows: &mut [u32], flags: &mut [u8], r: Roster
         → reacted v t (now (rows .exit)) (now (flags .exit))
         ≡ judged (requestBy (RemoveHorizon server) key) found pick (stateWith t (now (rows .entry)) (now (flags .entry)) r)) ⌝ }
 {
-    if roster::state_of(r, server) != 2 {
+    if roster::state_of(r, server) != sets::STANDBY {
         return answers::refused(4, r);
     }
     alter(roster::remove_horizon(r, server), rows, flags)

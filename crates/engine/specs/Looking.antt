@@ -9,7 +9,8 @@ use Rattle.roster.specs.declared.Roster.{Roster}
 use Rattle.roster.specs.Roster.{sound, heldServers, workingSet}
 use Rattle.event.specs.declared.Ask.{Ask}
 use Rattle.event.specs.declared.Ask.the-variants.{Refused}
-use Rattle.event.specs.Event.{Request, requestBy, requestOf, noKey}
+use Rattle.event.specs.Event.{Request, requestBy, requestOf, noKey, packetKind, endKind}
+use Rattle.settings.specs.Settings.{byRing}
 use Rattle.table.specs.Table.{Finding, find, findingOf}
 use Rattle.ring.specs.declared.Entry.{Entry}
 use Rattle.ring.specs.Ring.{overlaid}
@@ -33,11 +34,11 @@ nothingFound = record { found = false; reads = 0 }
 
 -- only packets and ends look for a record
 abbrev pub foundBy : Request → List ℕ → Finding
-foundBy e t = cond (is 1 e) (find (e .key) t) (cond (is 2 e) (find (e .key) t) nothingFound)
+foundBy e t = cond (is packetKind e) (find (e .key) t) (cond (is endKind e) (find (e .key) t) nothingFound)
 
 -- only a packet without a record needs F of its key, and of the ring's entries those in use under method 2
 abbrev pub unrecorded : Request → List ℕ → Bool
-unrecorded e t = cond (is 1 e) (not (find (e .key) t .found)) false
+unrecorded e t = cond (is packetKind e) (not (find (e .key) t .found)) false
 
 unfoldable pub lookOf : Bool → Request → List ℕ → Roster → LookupFacts
 lookOf sized e t r =
@@ -45,13 +46,13 @@ lookOf sized e t r =
       request = e;
       found = foundBy e t;
       f = cond (unrecorded e t) (F (e .key)) 0;
-      places = cond (unrecorded e t) (cond (eqb (r .settings .method) 2) (r .held) 0) 0;
+      places = cond (unrecorded e t) (cond (eqb (r .settings .method) byRing) (r .held) 0) 0;
       sized = sized;
     }
 
 -- refusals 9 and 11 before anything is done; a packet's 11 is left to the packet
 abbrev pub asksPacket : Ask → Bool
-asksPacket a = is 1 (requestBy a noKey)
+asksPacket a = is packetKind (requestBy a noKey)
 
 unfoldable pub admittedAsk : Bool → Bool → Ask → Ask
 admittedAsk sized rosterSound a = cond sized (cond (asksPacket a) a (cond rosterSound a (Refused 11))) (Refused 9)

@@ -130,7 +130,7 @@ pub fn begin(table: &mut [u8], rows: usize, flags: usize, ring: usize, roster: R
 }
 
 // The plan of the ring for a roster.
-pub fn plan_of(r: Roster) -> [Entry; 64]
+pub fn plan_of(r: Roster) -> [Entry; ring::RING_PLACES]
     ensures { λ p. ⌜ p ≡ planned (heldServers r) (workingSet r) ⌝ }
 {
     let n = roster::in_use(r.held);

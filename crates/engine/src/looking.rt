@@ -9,6 +9,7 @@ ghost use Rattle.event.specs.Event.{requestOf};
 ghost use Rattle.rules.specs.Rules.{sizesRight};
 ghost use mathlib.Core.Bool.{cond};
 ghost use lib.Dec.{eqb};
+ghost use Rattle.settings.specs.Settings.{byRing};
 ghost use Rattle.event.specs.declared.Ask.the-variants.{Packet};
 ghost use Rattle.engine.specs.Looking.{lookOf, lookupFacts, nothingFound};
 
@@ -19,19 +20,19 @@ pub(crate) fn sizes_right(table: usize, rows: usize, flags: usize, ring: usize) 
     if table == 0 {
         return false;
     }
-    if 65520 < table {
+    if table::MOST_TABLE_BYTES < table {
         return false;
     }
-    if table % 20 != 0 {
+    if table % table::RECORD_BYTES != 0 {
         return false;
     }
-    if rows != 4096 {
+    if rows != rows::ROW_PLACES {
         return false;
     }
-    if flags != 4096 {
+    if flags != rows::ROW_PLACES {
         return false;
     }
-    ring == 64
+    ring == ring::RING_PLACES
 }
 
 // Looks for the key's record, where the event has a key; for a packet without one also F of the key,
@@ -84,9 +85,9 @@ fn seek_packet(event: Event, table: &[u8], sized: bool, roster: Roster) -> Looku
 
 // How many ring entries a packet without a record searches.
 fn places_read(roster: Roster) -> usize
-    ensures { λ n. ⌜ n ≡ cond (eqb (roster .settings .method) 2) (roster .held) 0 ⌝ }
+    ensures { λ n. ⌜ n ≡ cond (eqb (roster .settings .method) byRing) (roster .held) 0 ⌝ }
 {
-    if roster.settings.method == 2 {
+    if roster.settings.method == settings::RING {
         return roster.held;
     }
     0

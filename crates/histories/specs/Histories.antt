@@ -10,6 +10,7 @@ use Rattle.spans.specs.Spans.{same}
 use Rattle.ranking.specs.Ranking.{Ranking}
 use Rattle.ranking.specs.Methods.{hrw, inRow, ring as ring-at}
 use Rattle.settings.specs.declared.Settings.{Settings}
+use Rattle.settings.specs.Settings.{byRing, byRowTable}
 use Rattle.roster.specs.declared.Roster.{Roster}
 use Rattle.roster.specs.Roster.{sound, stateOf, working, heldServers, workingSet}
 use Rattle.event.specs.Event.{allBytes}
@@ -41,8 +42,8 @@ AllBytes (bytes ∷ h) = (allBytes bytes ≡ true) × AllBytes h
 -- the ranking of the method in force for a key, written out from the hashes
 abbrev pub rankingFor : Settings → List ℕ → Ranking
 rankingFor c key =
-    cond (eqb (c .method) 3) (inRow (row key (c .rows)))
-    (cond (eqb (c .method) 2) (ring-at (point key))
+    cond (eqb (c .method) byRowTable) (inRow (row key (c .rows)))
+    (cond (eqb (c .method) byRing) (ring-at (point key))
     (hrw (digest (F key))))
 
 -- some record has a key; no key is recorded twice
@@ -71,5 +72,5 @@ pub record Along (w : World) : Type 0 where
   pub clean : noStray (w .state .table) ≡ true
   -- "ring and rows then equal the definition over the sets": filled or drawn anew they stay the same
   pub rowsRight : refilled (w .state .roster) (rowsOf (w .state)) ≡ rowsOf (w .state)
-  pub ringRight : eqb (w .state .roster .settings .method) 2 ≡ true
+  pub ringRight : eqb (w .state .roster .settings .method) byRing ≡ true
       → drawn (heldServers (w .state .roster)) (workingSet (w .state .roster)) (w .ring) ≡ w .ring

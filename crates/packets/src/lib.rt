@@ -10,8 +10,9 @@ ghost use mathlib.Core.Path.{_≡_};
 ghost use mathlib.Core.Bool.{true, cond};
 ghost use mathlib.Core.List.{List};
 ghost use Prim.Native.Nat.{ℕ};
-ghost use Rattle.sets.specs.Sets.{inState};
+ghost use Rattle.sets.specs.Sets.{inState, working};
 ghost use lib.Dec.{eqb};
+ghost use Rattle.settings.specs.Settings.{byRowTable};
 ghost use Rattle.rows.specs.Rows.{rowRead};
 ghost use Rattle.ring.specs.Ring.{gives};
 ghost use Rattle.event.specs.Event.{asksKey};
@@ -23,7 +24,7 @@ ghost use Rattle.packets.specs.Lent.{Lent, ledOf, packetOf};
 
 // A packet: refused with 11 where the roster hasn't its stated form.
 pub fn packet(
-    key: [u8; 13],
+    key: [u8; table::KEY_BYTES],
     found: Found,
     f: u32,
     spot: Entry,
@@ -58,7 +59,7 @@ pub fn packet(
 // A packet that meets a sound roster, of which it is lent the servers held and their states. Where the key has no record,
 // the server that HRW chooses is one of those that work, and 0 where none does; one that was read is refused unless it works.
 fn lead(
-    key: [u8; 13],
+    key: [u8; table::KEY_BYTES],
     found: Found,
     f: u32,
     spot: Entry,
@@ -76,7 +77,7 @@ fn lead(
     match found {
         Found::At(place) => known(place, table, servers, states),
         Found::Nothing(used) => {
-            if settings.method == 1 {
+            if settings.method == settings::HRW {
                 let best = hrw::pick(servers, states, hash::digest(f));
                 if best.server == 0 {
                     return Reply::Refused(7);
@@ -84,7 +85,7 @@ fn lead(
                 return settle(key, used, best, table);
             }
             let pick = read_pick(f, spot, rows, flags, settings);
-            if roster::parts::state_in(servers, states, pick.server) != 1 {
+            if roster::parts::state_in(servers, states, pick.server) != sets::WORKING {
                 return idle(servers, states);
             }
             settle(key, used, pick, table)
@@ -94,9 +95,9 @@ fn lead(
 
 // What methods 2 and 3 read: the row, or the ring's entry.
 fn read_pick(f: u32, spot: Entry, rows: &[u32], flags: &[u8], settings: Settings) -> Pick
-    ensures { λ p. ⌜ p ≡ cond (eqb (settings .method) 3) (rowRead (settings .rows) f (record { servers = now (rows .entry); flags = now (flags .entry) })) (gives spot) ⌝ }
+    ensures { λ p. ⌜ p ≡ cond (eqb (settings .method) byRowTable) (rowRead (settings .rows) f (record { servers = now (rows .entry); flags = now (flags .entry) })) (gives spot) ⌝ }
 {
-    if settings.method == 3 {
+    if settings.method == settings::ROW_TABLE {
         return rows::read(rows, flags, settings.rows, f);
     }
     Pick {
@@ -111,18 +112,18 @@ fn known(place: usize, table: &[u8], servers: &[u32], states: &[u8]) -> Reply
         → replied v (now (table .entry)) rows flags r ≡ judged (asksKey 1 key) (findingOf (Found.At place)) pick (stateWith (now (table .entry)) rows flags r)) ⌝ }
 {
     let server = table::server_at(table, place);
-    if roster::parts::state_in(servers, states, server) != 1 {
+    if roster::parts::state_in(servers, states, server) != sets::WORKING {
         return idle(servers, states);
     }
     Reply::Accepted {
         server: server,
-        mark: 1,
+        mark: rules::FROM_RECORD,
         reads: place,
     }
 }
 
 // The server picked, which works: it is recorded where it is unsafe and there is room.
-fn settle(key: [u8; 13], used: usize, pick: Pick, table: &mut [u8]) -> Reply
+fn settle(key: [u8; table::KEY_BYTES], used: usize, pick: Pick, table: &mut [u8]) -> Reply
     ensures { λ v. ⌜ ((rows flags : List ℕ) (r : Roster)
         → replied v (now (table .exit)) rows flags r ≡ packet-done key (findingOf (Found.Nothing used)) pick (stateWith (now (table .entry)) rows flags r)) ⌝ }
 {
@@ -130,28 +131,28 @@ fn settle(key: [u8; 13], used: usize, pick: Pick, table: &mut [u8]) -> Reply
     if !pick.flag {
         return Reply::Accepted {
             server: server,
-            mark: 2,
+            mark: rules::CHOSEN_SAFE,
             reads: used,
         };
     }
-    if table.len() / 20 <= used {
+    if table.len() / table::RECORD_BYTES <= used {
         return Reply::Accepted {
             server: server,
-            mark: 4,
+            mark: rules::NO_ROOM,
             reads: used,
         };
     }
     table::write_after(table, used, key, server);
     Reply::Accepted {
         server: server,
-        mark: 3,
+        mark: rules::CHOSEN_RECORDED,
         reads: used,
     }
 }
 
 // The refusal of a packet whose server doesn't work: 7 where none does, else 8.
 fn idle(servers: &[u32], states: &[u8]) -> Reply
-    ensures { λ v. ⌜ v ≡ Reply.Refused (cond (some (inState 1 (now (servers .entry)) (now (states .entry)))) 8 7) ⌝ }
+    ensures { λ v. ⌜ v ≡ Reply.Refused (cond (some (inState working (now (servers .entry)) (now (states .entry)))) 8 7) ⌝ }
 {
     if some_in_work(servers, states) {
         return Reply::Refused(8);
@@ -161,14 +162,14 @@ fn idle(servers: &[u32], states: &[u8]) -> Reply
 
 // Whether some of the servers is in state 1.
 fn some_in_work(servers: &[u32], states: &[u8]) -> bool
-    ensures { λ v. ⌜ v ≡ some (inState 1 (now (servers .entry)) (now (states .entry))) ⌝ }
+    ensures { λ v. ⌜ v ≡ some (inState working (now (servers .entry)) (now (states .entry))) ⌝ }
 {
     let mut i = 0;
     while i < servers.len() {
         if states.len() <= i {
             return false;
         }
-        if states[i] == 1 {
+        if states[i] == sets::WORKING {
             return true;
         }
         i += 1;

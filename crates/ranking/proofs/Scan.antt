@@ -5,8 +5,22 @@ use mathlib.Core.List.{List, [], _∷_}
 use mathlib.Core.Path.{_≡_, refl, sym, ap, _∙_}
 use Rattle.sets.proofs.Cases.{both, clash}
 use Rattle.ranking.specs.declared.Best.{Best}
-use Rattle.ranking.specs.Best.{noneYet, bestIs, keptIf, kept, bestOf, beaten}
+use Rattle.ranking.specs.Best.{noneYet, bestIs, kept, bestOf, beaten}
 use Rattle.ranking.specs.Ranking.{Ranking, highest, choice, outranked, pickOf, picked}
+
+-- the three ways of one more server
+module _ (outranks : ℕ → ℕ → ℕ → ℕ → Bool) (b : Best) (s m : ℕ) where
+  pub kept-first : b .any ≡ false → bestIs s m ≡ kept outranks b s m
+  unfolding kept
+  kept-first f = rw f
+
+  pub kept-stays : b .any ≡ true → outranks m s (b .measure) (b .server) ≡ false → b ≡ kept outranks b s m
+  unfolding kept
+  kept-stays t f = rw (t, f)
+
+  pub kept-yields : b .any ≡ true → outranks m s (b .measure) (b .server) ≡ true → bestIs s m ≡ kept outranks b s m
+  unfolding kept
+  kept-yields t u = rw (t, u)
 
 -- a ranking that goes by what is measured of each server
 module _ (outranks : ℕ → ℕ → ℕ → ℕ → Bool) (measure : ℕ → ℕ) where
@@ -19,12 +33,12 @@ module _ (outranks : ℕ → ℕ → ℕ → ℕ → Bool) (measure : ℕ → �
   keptAll b (s ∷ l) = keptAll (kept outranks b s (measure s)) l
 
   keeps : (c : ℕ) (l : List ℕ) → keptAll (bestIs c (measure c)) l ≡ bestIs (highest byMeasure c l) (measure (highest byMeasure c l))
-  unfolding keptAll keptIf
+  unfolding keptAll kept
   keeps c [] = refl
   keeps c (s ∷ l) = both (byMeasure s c) (λ t. rw t (keeps s l)) (λ t. rw t (keeps c l))
 
   pub keptAll-best : (l : List ℕ) → keptAll noneYet l ≡ bestOf byMeasure measure l
-  unfolding keptAll keptIf bestOf
+  unfolding keptAll kept bestOf
   keptAll-best [] = refl
   keptAll-best (s ∷ l) = keeps s l
 

@@ -11,13 +11,9 @@ noneYet = record { any = false; server = 0; measure = 0 }
 abbrev pub bestIs : ℕ → ℕ → Best
 bestIs s m = record { any = true; server = s; measure = m }
 
--- one more server: it takes the best's place where there is none yet, or where it is over the best
-unfoldable pub keptIf : Bool → Best → ℕ → ℕ → Best
-keptIf over b s m = cond (b .any) (cond over (bestIs s m) b) (bestIs s m)
-
--- over it is where it outranks it; `outranks` goes by measure and number of each
-abbrev pub kept : (ℕ → ℕ → ℕ → ℕ → Bool) → Best → ℕ → ℕ → Best
-kept outranks b s m = keptIf (outranks m s (b .measure) (b .server)) b s m
+-- one more server: it takes the best's place where there is none yet, or where it outranks it; `outranks` goes by measure and number of each
+unfoldable pub kept : (ℕ → ℕ → ℕ → ℕ → Bool) → Best → ℕ → ℕ → Best
+kept outranks b s m = cond (b .any) (cond (outranks m s (b .measure) (b .server)) (bestIs s m) b) (bestIs s m)
 
 -- the best of a set: its choice, with the choice's measure
 unfoldable pub bestOf : Ranking → (ℕ → ℕ) → List ℕ → Best

@@ -1,7 +1,7 @@
 // Which of two servers outranks the other, from what a method measured of each, and the best server so
 // far as a loop keeps it. What a choice over a set is, and its laws, are in specs/ and proofs/.
 ghost use mathlib.Core.Path.{_≡_};
-ghost use Rattle.ranking.specs.Best.{noneYet, keptIf, kept};
+ghost use Rattle.ranking.specs.Best.{noneYet, kept};
 ghost use Rattle.ranking.specs.Methods.{heavier as heavier-of, nearer as nearer-of};
 
 // Whether server a outranks server b by weight, as HRW and the row table rank.
@@ -49,34 +49,34 @@ pub fn none_yet() -> Best
     }
 }
 
-// The best so far, or one more server where there is none yet or where it is over the best.
-fn keep(best: Best, over: bool, server: u32, measure: u32) -> Best
-    ensures { λ r. ⌜ r ≡ keptIf over best server measure ⌝ }
+// The best so far or one more server, whichever outranks the other by weight.
+pub fn keep_heavier(best: Best, server: u32, weight: u32) -> Best
+    ensures { λ r. ⌜ r ≡ kept heavier-of best server weight ⌝ }
 {
     if best.any {
-        if !over {
+        if !heavier(weight, server, best.measure, best.server) {
             return best;
         }
     }
     Best {
         any: true,
         server: server,
-        measure: measure,
+        measure: weight,
     }
-}
-
-// The best so far or one more server, whichever outranks the other by weight.
-pub fn keep_heavier(best: Best, server: u32, weight: u32) -> Best
-    ensures { λ r. ⌜ r ≡ kept heavier-of best server weight ⌝ }
-{
-    let over = heavier(weight, server, best.measure, best.server);
-    keep(best, over, server, weight)
 }
 
 // The best so far or one more server, whichever outranks the other by distance.
 pub fn keep_nearer(best: Best, server: u32, distance: u32) -> Best
     ensures { λ r. ⌜ r ≡ kept nearer-of best server distance ⌝ }
 {
-    let over = nearer(distance, server, best.measure, best.server);
-    keep(best, over, server, distance)
+    if best.any {
+        if !nearer(distance, server, best.measure, best.server) {
+            return best;
+        }
+    }
+    Best {
+        any: true,
+        server: server,
+        measure: distance,
+    }
 }

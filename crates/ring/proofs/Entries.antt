@@ -90,12 +90,12 @@ module _ {M : Type 1} {𝓤 : URA M} {H : Heap 𝓤} {A : Atoms 𝓤} {K : Type 
       elem-put t E q es i e (vals e) b o l $ s)
 
 -- what a `&[Entry]` leaves of itself while its row is looked at
-abbrev pub LookupFacts : Lft → Share → Share → ℕ → ℕ → GName → List Entry → Fml
-LookupFacts κ q q′ b o γ es = fsep (fobor κ q (arr-parts (shares E) (length es) .part q′ es b o)) (fsep (Frac E κ b o es) (Res E γ es))
+abbrev pub Looked : Lft → Share → Share → ℕ → ℕ → GName → List Entry → Fml
+Looked κ q q′ b o γ es = fsep (fobor κ q (arr-parts (shares E) (length es) .part q′ es b o)) (fsep (Frac E κ b o es) (Res E γ es))
 
 module _ {M : Type 1} {𝓤 : URA M} {H : Heap 𝓤} {A : Atoms 𝓤} {K : Type 0} {W : Given 𝓤 H A} {Γ : List (Item 𝓤)} {G : Goal 𝓤 H} where
   pub open-ring : K → Soaks G → (ℓ : Lifetime) (κ : Lft) (q : Share) (b o : ℕ) (γ : GName) (es : List Entry)
-      → ((q′ : Share) → Seq K W (‵ (row E q′ es b o) ∷ ‵ (LookupFacts κ q q′ b o γ es) ∷ Γ) G)
+      → ((q′ : Share) → Seq K W (‵ (row E q′ es b o) ∷ ‵ (Looked κ q q′ b o γ es) ∷ Γ) G)
       → Seq K W (‵ (flft κ q) ∷ ‵ (Shr ℓ κ E b o γ es) ∷ Γ) G
   open-ring t z ℓ κ q b o γ es k =
       move t (1 ∷ []) $ fsplit t $ drop t $ fsplit t $ move t (1 ∷ 2 ∷ []) $
@@ -103,7 +103,7 @@ module _ {M : Type 1} {𝓤 : URA M} {H : Heap 𝓤} {A : Atoms 𝓤} {K : Type 
       move t (2 ∷ 3 ∷ []) $ fjoin t $ move t (2 ∷ 0 ∷ []) $ fjoin t $ move t (1 ∷ 0 ∷ []) $ k q′)
 
   pub shut-ring : K → Soaks G → (ℓ : Lifetime) (κ : Lft) (q q′ : Share) (b o : ℕ) (γ : GName) (es : List Entry) → Room E (length es)
-      → Step K W (‵ (flft κ q) ∷ ‵ (Shr ℓ κ E b o γ es) ∷ Γ) G (‵ (row E q′ es b o) ∷ ‵ (LookupFacts κ q q′ b o γ es) ∷ Γ) G
+      → Step K W (‵ (flft κ q) ∷ ‵ (Shr ℓ κ E b o γ es) ∷ Γ) G (‵ (row E q′ es b o) ∷ ‵ (Looked κ q q′ b o γ es) ∷ Γ) G
   shut-ring t z ℓ κ q q′ b o γ es room = step (λ s. move t (1 ∷ []) $ fsplit t $ move t (2 ∷ 0 ∷ []) $
       shuts-slice t z E q′ es b o $ move t (1 ∷ []) $ fsplit t $ move t (1 ∷ 0 ∷ []) $ fjoin t $
       pureI t (at-slice E (ref b o γ es) (sval b o es ∷ [])) (tt, (tt, tt)) (refl, room) $ fjoin t $ move t (1 ∷ 0 ∷ []) $ s)

@@ -9,6 +9,10 @@ use Rattle.ranking.specs.declared.Pick.{Pick}
 use Rattle.ranking.specs.Ranking.{pickOf}
 use Rattle.ring.specs.declared.Entry.{Entry}
 
+-- "a list of 64 places"
+abbrev pub ringPlaces : ℕ
+ringPlaces = 64
+
 -- what stands past the end of a ring
 abbrev pub blank : Entry
 blank = record { position = 0; server = 0; track = 0 }
@@ -28,4 +32,4 @@ gives e = pickOf (e .server) (not (eqb (e .track) 0))
 -- the first entries of a ring written from a plan of 64, "the rest stay as they are"; more than the plan or the ring has are not written at all
 unfoldable pub overlaid : List Entry → ℕ → List Entry → List Entry
 overlaid plan places es =
-    cond (leb places 64) (cond (leb places (length es)) (take places plan ++ drop places es) es) es
+    cond (leb places ringPlaces) (cond (leb places (length es)) (take places plan ++ drop places es) es) es

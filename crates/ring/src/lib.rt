@@ -3,6 +3,9 @@ ghost use mathlib.Core.Path.{_≡_};
 ghost use Prim.Native.Nat.{min};
 ghost use Rattle.ring.specs.Ring.{entryRead, overlaid};
 
+// How many places a ring has.
+pub const RING_PLACES: usize = 64;
+
 // An entry: a position, the server that a key reading it is led to, and a track flag.
 #[repr(C)]
 pub struct Entry {
@@ -46,10 +49,10 @@ pub fn read(ring: &[Entry], places: usize, point: u32) -> Entry
 }
 
 // Writes the first `places` entries from a plan. Where the plan or the ring has fewer, nothing is written.
-pub fn draw(ring: &mut [Entry], plan: [Entry; 64], places: usize)
+pub fn draw(ring: &mut [Entry], plan: [Entry; RING_PLACES], places: usize)
     ensures { λ _. ⌜ now (ring .exit) ≡ overlaid plan places (now (ring .entry)) ⌝ }
 {
-    if places > 64 {
+    if places > RING_PLACES {
         return;
     }
     if places > ring.len() {

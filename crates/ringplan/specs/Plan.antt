@@ -9,7 +9,7 @@ use Rattle.sets.specs.Sets.{member}
 use Rattle.ranking.specs.Ranking.{Ranking, choice}
 use Rattle.ranking.specs.Methods.{byDistance, ring}
 use Rattle.ring.specs.declared.Entry.{Entry}
-use Rattle.ring.specs.Ring.{blank}
+use Rattle.ring.specs.Ring.{blank, ringPlaces}
 
 -- "in order of position, then falling server number": the first stands before the second
 abbrev pub standsBefore : Ranking
@@ -50,4 +50,4 @@ drawn held working old = entries held working ++ drop (length held) old
 -- the entries laid out in a plan of 64 places, blank behind them; a plan for more servers is blank
 unfoldable pub planned : List ℕ → List ℕ → List Entry
 planned held working =
-    cond (leb (length held) 64) (entries held working ++ replicate (64 - length held) blank) (replicate 64 blank)
+    cond (leb (length held) ringPlaces) (entries held working ++ replicate (ringPlaces - length held) blank) (replicate ringPlaces blank)

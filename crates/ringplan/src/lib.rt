@@ -4,12 +4,12 @@ ghost use mathlib.Core.List.{List, map};
 ghost use Prim.Native.Nat.{ℕ, _<_, _≤_, _+_, _^_};
 ghost use lib.ListN.{length, take, replicate};
 ghost use Rattle.hash.specs.Hash.{position as position-of, distance};
-ghost use Rattle.sets.specs.Sets.{member, inState};
+ghost use Rattle.sets.specs.Sets.{member, inState, working as at-work, mostServers};
 ghost use Rattle.ranking.specs.Best.{bestOf};
 ghost use Rattle.ranking.specs.Methods.{ring as ring-at};
 ghost use Rattle.ringplan.specs.Plan.{arranged, entryOf, planned};
 ghost use Rattle.ringplan.specs.Keys.{Fit, keyOf, keyPosition, keyServer, keyPlaced, Rising};
-ghost use Rattle.ring.specs.Ring.{blank};
+ghost use Rattle.ring.specs.Ring.{blank, ringPlaces};
 use ranking::Best;
 use ring::Entry;
 
@@ -39,11 +39,11 @@ fn place(order: &mut [u64], n: usize, key: u64)
 }
 
 // The keys of servers, 64 at most, in the ring's order.
-fn arrange(servers: &[u32]) -> [u64; 64]
-    requires { ⌜ length (now servers) ≤ 64 ⌝ }
+fn arrange(servers: &[u32]) -> [u64; sets::MOST_SERVERS]
+    requires { ⌜ length (now servers) ≤ mostServers ⌝ }
     ensures { λ r. ⌜ take (length (now (servers .entry))) r ≡ map keyOf (arranged (now (servers .entry))) ⌝ }
 {
-    let mut order = [0u64; 64];
+    let mut order = [0u64; sets::MOST_SERVERS];
     let mut n = 0;
     let mut i = servers.len();
     while 0 < i {
@@ -56,17 +56,17 @@ fn arrange(servers: &[u32]) -> [u64; 64]
 
 // The keys of the working servers: the first `held` of 64 places.
 struct AtWork {
-    keys: [u64; 64],
+    keys: [u64; sets::MOST_SERVERS],
     held: usize,
 }
 
 // The keys of the working ones of at most 64 servers.
 fn working(servers: &[u32], states: &[u8]) -> AtWork
-    requires { ⌜ length (now servers) ≤ 64 ⌝ }
-    ensures { λ r. ⌜ (r .held ≤ 64) × ((length (r .keys) ≡ 64)
-        × (take (r .held) (r .keys) ≡ map keyOf (inState 1 (now (servers .entry)) (now (states .entry))))) ⌝ }
+    requires { ⌜ length (now servers) ≤ mostServers ⌝ }
+    ensures { λ r. ⌜ (r .held ≤ mostServers) × ((length (r .keys) ≡ mostServers)
+        × (take (r .held) (r .keys) ≡ map keyOf (inState at-work (now (servers .entry)) (now (states .entry))))) ⌝ }
 {
-    let mut keys = [0u64; 64];
+    let mut keys = [0u64; sets::MOST_SERVERS];
     let mut n = 0;
     let mut i = 0;
     while i < servers.len() {
@@ -76,7 +76,7 @@ fn working(servers: &[u32], states: &[u8]) -> AtWork
                 held: n,
             };
         }
-        if states[i] == 1 {
+        if states[i] == sets::WORKING {
             keys[n] = key(servers[i]);
             n += 1;
         }
@@ -153,23 +153,23 @@ fn entry_for(working: &[u64], key: u64) -> Entry
 }
 
 // No entries at all.
-fn blank_plan() -> [Entry; 64]
-    ensures { λ r. ⌜ r ≡ replicate 64 blank ⌝ }
+fn blank_plan() -> [Entry; ring::RING_PLACES]
+    ensures { λ r. ⌜ r ≡ replicate ringPlaces blank ⌝ }
 {
     let e = Entry {
         position: 0,
         server: 0,
         track: 0,
     };
-    [e; 64]
+    [e; ring::RING_PLACES]
 }
 
 // The plan of a ring for servers and their states, 1 working and 2 in the horizon.
-pub fn plan(servers: &[u32], states: &[u8]) -> [Entry; 64]
-    ensures { λ r. ⌜ r ≡ planned (now (servers .entry)) (inState 1 (now (servers .entry)) (now (states .entry))) ⌝ }
+pub fn plan(servers: &[u32], states: &[u8]) -> [Entry; ring::RING_PLACES]
+    ensures { λ r. ⌜ r ≡ planned (now (servers .entry)) (inState at-work (now (servers .entry)) (now (states .entry))) ⌝ }
 {
     let mut plan = blank_plan();
-    if 64 < servers.len() {
+    if sets::MOST_SERVERS < servers.len() {
         return plan;
     }
     let at_work = working(servers, states);

@@ -8,6 +8,10 @@ use Rattle.ranking.specs.declared.Pick.{Pick}
 use Rattle.ranking.specs.Ranking.{pickOf}
 use Rattle.ranking.specs.Methods.{rowServer, rowFlag}
 
+-- "a lent list of 4,096 32-bit numbers with 4,096 flag bytes beside it"
+abbrev pub rowPlaces : ℕ
+rowPlaces = 4096
+
 -- rows and flags together
 pub record Rows : Type 0 where
   pub servers : List ℕ

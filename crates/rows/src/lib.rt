@@ -3,15 +3,20 @@
 ghost use mathlib.Core.Path.{_≡_};
 ghost use Prim.Native.Nat.{min};
 ghost use lib.ListN.{getD};
-ghost use Rattle.sets.specs.Sets.{inState};
+ghost use Rattle.sets.specs.Sets.{inState, working, standby};
 ghost use Rattle.rows.specs.Rows.{Rows, filled, cleared, rowRead};
 use ranking::Pick;
+
+// How many places rows and flags have.
+pub const ROW_PLACES: usize = 4096;
 
 // Fills the first `count` rows for the servers in states 1 (working) and 2 (horizon). In each row
 // every weight is computed once: the working servers' for the choice, then the horizon servers'
 // up to the first that outranks it.
 pub fn fill(rows: &mut [u32], flags: &mut [u8], count: u16, servers: &[u32], states: &[u8])
-    ensures { λ _. ⌜ record { servers = now (rows .exit); flags = now (flags .exit) } ≡ filled count (inState 1 (now (servers .entry)) (now (states .entry))) (inState 2 (now (servers .entry)) (now (states .entry))) (record { servers = now (rows .entry); flags = now (flags .entry) }) ⌝ }
+    ensures { λ _. ⌜ record { servers = now (rows .exit); flags = now (flags .exit) }
+        ≡ filled count (inState working (now (servers .entry)) (now (states .entry))) (inState standby (now (servers .entry)) (now (states .entry)))
+        (record { servers = now (rows .entry); flags = now (flags .entry) }) ⌝ }
 {
     let n = in_use(count as usize, rows.len(), flags.len());
     let mut r = 0;
@@ -25,7 +30,7 @@ pub fn fill(rows: &mut [u32], flags: &mut [u8], count: u16, servers: &[u32], sta
                 if states.len() <= i {
                     break 'search;
                 }
-                if states[i] == 2 {
+                if states[i] == sets::STANDBY {
                     let server = servers[i];
                     let w = hash::weight(server, d);
                     if ranking::heavier(w, server, best.measure, best.server) {

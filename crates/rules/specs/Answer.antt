@@ -21,3 +21,23 @@ refuses n = record { accepted = false; refusal = n; server = 0; mark = 0; reads 
 abbrev pub answerOf : Reply → Answer
 answerOf (Accepted s mark reads) = accepts s mark reads
 answerOf (Refused n) = refuses n
+
+-- the marks of accepted packets and ends: "1 from the record, 2 chosen and safe, 3 chosen and recorded, 4 chosen, unsafe and no room; 5 record
+-- removed, 6 nothing to remove"
+abbrev pub fromRecord : ℕ
+fromRecord = 1
+
+abbrev pub chosenSafe : ℕ
+chosenSafe = 2
+
+abbrev pub chosenRecorded : ℕ
+chosenRecorded = 3
+
+abbrev pub noRoom : ℕ
+noRoom = 4
+
+abbrev pub recordRemoved : ℕ
+recordRemoved = 5
+
+abbrev pub nothingToRemove : ℕ
+nothingToRemove = 6

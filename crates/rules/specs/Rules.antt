@@ -10,16 +10,17 @@ use Rattle.ranking.specs.declared.Pick.{Pick}
 use Rattle.ranking.specs.Ranking.{picked}
 use Rattle.ranking.specs.Methods.{hrw}
 use Rattle.settings.specs.declared.Settings.{Settings}
+use Rattle.settings.specs.Settings.{byRing, byRowTable}
 use Rattle.roster.specs.declared.Roster.{Roster}
-use Rattle.roster.specs.Roster.{sound, working, standby, stateOf, workingSet, horizon, heldServers, addedWorking, removedWorking, addedHorizon, removedHorizon, emptyRoster}
-use Rattle.event.specs.Event.{Request, refusedBy, eventIn}
-use Rattle.table.specs.Table.{Finding, find, serverAt, room, used, writtenAfter, removed, removedServer, started}
-use Rattle.rows.specs.Rows.{Rows, filled, cleared, rowRead}
+use Rattle.roster.specs.Roster.{mostServers, sound, working, standby, stateOf, workingSet, horizon, heldServers, addedWorking, removedWorking, addedHorizon, removedHorizon, emptyRoster}
+use Rattle.event.specs.Event.{Request, refusedBy, eventIn, packetKind, endKind, addWorkingKind, removeWorkingKind, addHorizonKind, removeHorizonKind, configureKind}
+use Rattle.table.specs.Table.{recordBytes, mostTableBytes, Finding, find, serverAt, room, used, writtenAfter, removed, removedServer, started}
+use Rattle.rows.specs.Rows.{rowPlaces, Rows, filled, cleared, rowRead}
 use Rattle.ring.specs.declared.Entry.{Entry}
-use Rattle.ring.specs.Ring.{entryRead, gives}
+use Rattle.ring.specs.Ring.{ringPlaces, entryRead, gives}
 use Rattle.ringplan.specs.Plan.{some, drawn}
 use Rattle.rules.specs.declared.Reply.{Reply}
-use Rattle.rules.specs.Answer.{Answer, accepts, refuses, answerOf}
+use Rattle.rules.specs.Answer.{Answer, accepts, refuses, answerOf, fromRecord, chosenSafe, chosenRecorded, noRoom, recordRemoved, nothingToRemove}
 
 -- the lent buffers but the ring, and the roster
 pub record State : Type 0 where
@@ -55,10 +56,10 @@ first applies n others = cond applies n others
 unfoldable pub sizesRight : ℕ → ℕ → ℕ → ℕ → Bool
 sizesRight tableLength rowsLength flagsLength ringLength =
     cond (eqb tableLength 0) false
-    (cond (leb tableLength 65520)
-    (cond (eqb (tableLength % 20) 0)
-    (cond (eqb rowsLength 4096)
-    (cond (eqb flagsLength 4096) (eqb ringLength 64) false) false) false) false)
+    (cond (leb tableLength mostTableBytes)
+    (cond (eqb (tableLength % recordBytes) 0)
+    (cond (eqb rowsLength rowPlaces)
+    (cond (eqb flagsLength rowPlaces) (eqb ringLength ringPlaces) false) false) false) false)
 
 -- what is lent bars every event: 9, then 11; 0 where neither does
 unfoldable pub lentBar : Bool → Bool → ℕ
@@ -83,13 +84,13 @@ target found pick st = cond (found .found) (serverAt (found .reads) (st .table))
 -- refusals 10, 3, 6, 4, 5, 7, 8, in this order
 unfoldable pub barred : Request → Finding → Pick → State → ℕ
 barred e found pick st =
-    first (is 7 e && not (empty st)) 10
-    (first (is 5 e && not (eqb (stateOf (e .server) (st .roster)) 0)) 3
-    (first (is 5 e && leb 64 (st .roster .held)) 6
-    (first ((is 3 e || is 6 e) && not (eqb (stateOf (e .server) (st .roster)) standby)) 4
-    (first (is 4 e && not (eqb (stateOf (e .server) (st .roster)) working)) 5
-    (first (is 1 e && not (some (workingSet (st .roster)))) 7
-    (first (is 1 e && not (eqb (stateOf (target found pick st) (st .roster)) working)) 8
+    first (is configureKind e && not (empty st)) 10
+    (first (is addHorizonKind e && not (eqb (stateOf (e .server) (st .roster)) 0)) 3
+    (first (is addHorizonKind e && leb mostServers (st .roster .held)) 6
+    (first ((is addWorkingKind e || is removeHorizonKind e) && not (eqb (stateOf (e .server) (st .roster)) standby)) 4
+    (first (is removeWorkingKind e && not (eqb (stateOf (e .server) (st .roster)) working)) 5
+    (first (is packetKind e && not (some (workingSet (st .roster)))) 7
+    (first (is packetKind e && not (eqb (stateOf (target found pick st) (st .roster)) working)) 8
     0))))))
 
 -- ---- what each accepted event does
@@ -108,26 +109,26 @@ answered a t st = record { answer = a; state = withTable t st; redraw = false }
 unfoldable pub packet : List ℕ → Finding → Pick → State → Change
 packet key found pick st =
     cond (found .found)
-    (answered (accepts (serverAt (found .reads) (st .table)) 1 (found .reads)) (st .table) st)
+    (answered (accepts (serverAt (found .reads) (st .table)) fromRecord (found .reads)) (st .table) st)
     (cond (not (pick .flag))
-    (answered (accepts (pick .server) 2 (found .reads)) (st .table) st)
+    (answered (accepts (pick .server) chosenSafe (found .reads)) (st .table) st)
     (cond (ltb (found .reads) (room (st .table)))
-    (answered (accepts (pick .server) 3 (found .reads)) (writtenAfter (found .reads) key (pick .server) (st .table)) st)
-    (answered (accepts (pick .server) 4 (found .reads)) (st .table) st)))
+    (answered (accepts (pick .server) chosenRecorded (found .reads)) (writtenAfter (found .reads) key (pick .server) (st .table)) st)
+    (answered (accepts (pick .server) noRoom (found .reads)) (st .table) st)))
 
 -- "An end takes the key's record away." Marks 5, 6.
 unfoldable pub end : Finding → State → Change
 end found st =
     cond (found .found)
-    (answered (accepts 0 5 (found .reads)) (removed (found .reads) (st .table)) st)
-    (answered (accepts 0 6 (found .reads)) (st .table) st)
+    (answered (accepts 0 recordRemoved (found .reads)) (removed (found .reads) (st .table)) st)
+    (answered (accepts 0 nothingToRemove (found .reads)) (st .table) st)
 
 -- the rows of a roster whose method is 3 hold what its sets give; "under methods 1 and 2 none is [touched]"
 abbrev pub rowsOf : State → Rows
 rowsOf st = record { servers = st .rows; flags = st .flags }
 
 unfoldable pub refilled : Roster → Rows → Rows
-refilled r rows = cond (eqb (r .settings .method) 3) (filled (r .settings .rows) (workingSet r) (horizon r) rows) rows
+refilled r rows = cond (eqb (r .settings .method) byRowTable) (filled (r .settings .rows) (workingSet r) (horizon r) rows) rows
 
 -- "Other accepted events carry server, mark and reads 0"
 abbrev pub taken : Bool → State → Change
@@ -136,7 +137,7 @@ taken redraw st = record { answer = accepts 0 0 0; state = st; redraw = redraw }
 -- an accepted roster change: "the rows or entries in use hold exactly what the new sets give". "Methods 1 and 3 don't touch the ring."
 abbrev pub changed : Roster → List ℕ → State → Change
 changed r t st =
-    taken (eqb (r .settings .method) 2) (stateWith t (refilled r (rowsOf st) .servers) (refilled r (rowsOf st) .flags) r)
+    taken (eqb (r .settings .method) byRing) (stateWith t (refilled r (rowsOf st) .servers) (refilled r (rowsOf st) .flags) r)
 
 -- "it selects the method and zeroes the rows it counts and their flags"
 abbrev pub withSettings : Settings → Roster → Roster
@@ -150,12 +151,12 @@ configured c st =
 -- by kind; "Remove working takes away every record naming that server."
 unfoldable pub effect : Request → Finding → Pick → State → Change
 effect e found pick st =
-    cond (is 1 e) (packet (e .key) found pick st)
-    (cond (is 2 e) (end found st)
-    (cond (is 3 e) (changed (addedWorking (e .server) (st .roster)) (st .table) st)
-    (cond (is 4 e) (changed (removedWorking (e .server) (st .roster)) (removedServer (e .server) (st .table)) st)
-    (cond (is 5 e) (changed (addedHorizon (e .server) (st .roster)) (st .table) st)
-    (cond (is 6 e) (changed (removedHorizon (e .server) (st .roster)) (st .table) st)
+    cond (is packetKind e) (packet (e .key) found pick st)
+    (cond (is endKind e) (end found st)
+    (cond (is addWorkingKind e) (changed (addedWorking (e .server) (st .roster)) (st .table) st)
+    (cond (is removeWorkingKind e) (changed (removedWorking (e .server) (st .roster)) (removedServer (e .server) (st .table)) st)
+    (cond (is addHorizonKind e) (changed (addedHorizon (e .server) (st .roster)) (st .table) st)
+    (cond (is removeHorizonKind e) (changed (removedHorizon (e .server) (st .roster)) (st .table) st)
     (configured (e .settings) st))))))
 
 -- "Tested in this order; the first that applies is given."
@@ -169,9 +170,9 @@ judged e found pick st =
 -- what the method gives a packet without a record: "the choice over the working set (methods 2 and 3: read from ring or row)". f is F(key), spot the ring's entry
 unfoldable pub pickBy : ℕ → Entry → State → Pick
 pickBy f spot st =
-    cond (eqb (st .roster .settings .method) 3)
+    cond (eqb (st .roster .settings .method) byRowTable)
     (rowRead (st .roster .settings .rows) f (rowsOf st))
-    (cond (eqb (st .roster .settings .method) 2)
+    (cond (eqb (st .roster .settings .method) byRing)
     (gives spot)
     (picked (hrw (digest f)) (workingSet (st .roster)) (horizon (st .roster))))
 

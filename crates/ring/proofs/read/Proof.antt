@@ -49,7 +49,7 @@ use Rattle.ring.specs.Ring.{blank, entryRead}
 use Rattle.ring.specs.declared.Entry.{Entry}
 use Rattle.ring.proofs.Entry as T
 use Rattle.ring.proofs.Entry.Laws as T′
-use Rattle.ring.proofs.Entries.{E, at, Known, typed, made, makes, fits-place, entry-out, entry-back, LookupFacts, open-ring, shut-ring}
+use Rattle.ring.proofs.Entries.{E, at, Known, typed, made, makes, fits-place, entry-out, entry-back, Looked, open-ring, shut-ring}
 use Rattle.ring.proofs.Slices.{ref, sval, Shr}
 use Rattle.ring.proofs.Steps.{bare, here, local, rest, free, has, locals, free-all}
 use Rattle.ring.proofs.Search.{reach, gives-from, empty, not-empty, starts, found, passed, none}
@@ -148,7 +148,7 @@ module _ {M : Type 1} (𝓤 : URA M) (H : Heap 𝓤) (A : Atoms 𝓤) (W : Given
     module _ (q′ : Share) (any : 0 < length es) where
       -- what a turn begins with
       abbrev At : State → List (Item 𝓤)
-      At s = ‵ (row E q′ es b₀ o₀) ∷ ‵ (LookupFacts κ₀ q₀ q′ b₀ o₀ γ₀ es) ∷ locals En (free ∷ has (sval b₀ o₀ es) ∷ has (vint w64 places) ∷
+      At s = ‵ (row E q′ es b₀ o₀) ∷ ‵ (Looked κ₀ q₀ q′ b₀ o₀ γ₀ es) ∷ locals En (free ∷ has (sval b₀ o₀ es) ∷ has (vint w64 places) ∷
           has (vint w32 point) ∷ has (vint w64 (reach es places)) ∷ has (vint w64 (s .0)) ∷ [])
 
       abbrev Turned : State → Out → SProp 𝓤
