@@ -1,8 +1,7 @@
 #!/usr/bin/env python3
-"""What the programs `limits`, `methods`, `vectors` and `bench` must print, worked out from the sentences of document 01.
+"""What the programs `cases`, `vectors` and `bench` must print, worked out from the sentences of document 01.
 
-    python3 tests/independent.py limits  | cmp - crates/limits/stdout
-    python3 tests/independent.py methods | cmp - crates/methods/stdout
+    python3 tests/independent.py cases   | cmp - crates/cases/stdout
     python3 tests/independent.py vectors | cmp - crates/vectors/stdout
     python3 tests/independent.py bench   | cmp - crates/bench/stdout
     python3 tests/independent.py bench METHOD SERVERS HORIZON RECORDS PACKETS CHANGES
@@ -361,16 +360,6 @@ def asked(b):
     return f" {refusal} {kind} {server} {method} {rows}" + (f" {key.hex()}" if key is not None else "")
 
 
-def limits():
-    """A word with a capital letter is no step."""
-    rosters, others = sections("limits")
-    for text in rosters:
-        roster_line(text)
-    buffer, size = bytearray(b"\xff" * 65540), 0
-    for text in others:
-        size = table_line(buffer, size, text)
-
-
 # ------------------------------------------------------------------------------------------ rows
 
 class Rows:
@@ -483,18 +472,30 @@ def method_step(rows, working, horizon, op, n):
     return ()
 
 
-def methods():
-    """A word with a capital letter is no step."""
+def method_lines(lines):
     assert len({position(s) for s in (15074560, 108036203)}) == 1
     assert len({position(s) for s in (81783047, 411629326, 449974487)}) == 1
     rows, working, horizon = Rows(), [], []
-    for text in sections("methods")[0]:
+    for text in lines:
         shown = []
         for step in text.split(", "):
             bare = step.rstrip(":")
             numbers = [] if bare[0].isupper() else method_step(rows, working, horizon, bare.split()[0], numbers_in(bare))
             shown.append(step + "".join(f" {x}" for x in numbers))
         line(", ".join(shown))
+
+
+# ----------------------------------------------------------------------------------------- cases
+
+def cases():
+    """A word with a capital letter is no step."""
+    rosters, tables, methods = sections("cases")
+    for text in rosters:
+        roster_line(text)
+    buffer, size = bytearray(b"\xff" * 65540), 0
+    for text in tables:
+        size = table_line(buffer, size, text)
+    method_lines(methods)
 
 
 # --------------------------------------------------------------------------------------- vectors
@@ -628,5 +629,5 @@ def figures():
 
 if __name__ == "__main__":
     figures()
-    {"limits": limits, "methods": methods, "vectors": vectors, "bench": bench}[sys.argv[1]]()
+    {"cases": cases, "vectors": vectors, "bench": bench}[sys.argv[1]]()
     sys.stdout.write("".join(text + "\n" for text in LINES))

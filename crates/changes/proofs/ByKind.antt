@@ -10,76 +10,72 @@ use Rattle.settings.specs.declared.Settings.{Settings}
 use Rattle.roster.specs.declared.Roster.{Roster}
 use Rattle.roster.specs.Roster.{workingSet, horizon, stateOf, addedWorking, removedWorking, addedHorizon, removedHorizon}
 use Rattle.event.specs.Event.{requestBy}
+use Rattle.event.specs.declared.Ask.{Ask}
 use Rattle.event.specs.declared.Ask.the-variants.{End, AddWorking, RemoveWorking, AddHorizon, RemoveHorizon, Configure, Refused}
 use Rattle.rows.specs.Rows.{Rows, filled}
 use Rattle.table.specs.Table.{Finding, used, removed, removedServer}
 use Rattle.rules.specs.Answer.{accepts}
-use Rattle.rules.specs.Rules.{stateWith, judged, barred, effect, end, refused, answered, changed, configured, refilled}
+use Rattle.rules.specs.Rules.{stateWith, State, Change, judged, barred, effect, end, refused, answered, changed, configured, refilled}
 
 module _ (key t rows flags : List ℕ) (found : Finding) (pick : Pick) (r : Roster) where
-  pub refused-as : (n : ℕ) → refused n (stateWith t rows flags r) ≡ judged (requestBy (Refused n) key) found pick (stateWith t rows flags r)
+  abbrev st : State
+  st = stateWith t rows flags r
+
+  -- that is what the rules make of it, from this state
+  abbrev Due : Change → Ask → Type 0
+  Due c ask = c ≡ judged (requestBy ask key) found pick st
+
+  pub refused-as : (n : ℕ) → Due (refused n st) (Refused n)
   unfolding judged
   refused-as n = refl
 
   module _ (s : ℕ) where
-    pub add-working-4 : (stateOf s r ≡ 2 → ⊥)
-        → refused 4 (stateWith t rows flags r) ≡ judged (requestBy (AddWorking s) key) found pick (stateWith t rows flags r)
+    pub add-working-4 : (stateOf s r ≡ 2 → ⊥) → Due (refused 4 st) (AddWorking s)
     unfolding judged barred
     add-working-4 n = rw (ne-eqb (stateOf s r) 2 n)
 
-    pub add-working-done : stateOf s r ≡ 2
-        → changed (addedWorking s r) t (stateWith t rows flags r) ≡ judged (requestBy (AddWorking s) key) found pick (stateWith t rows flags r)
+    pub add-working-done : stateOf s r ≡ 2 → Due (changed (addedWorking s r) t st) (AddWorking s)
     unfolding judged barred effect
     add-working-done e = rw (eq-eqb (stateOf s r) 2 e)
 
-    pub remove-working-5 : (stateOf s r ≡ 1 → ⊥)
-        → refused 5 (stateWith t rows flags r) ≡ judged (requestBy (RemoveWorking s) key) found pick (stateWith t rows flags r)
+    pub remove-working-5 : (stateOf s r ≡ 1 → ⊥) → Due (refused 5 st) (RemoveWorking s)
     unfolding judged barred
     remove-working-5 n = rw (ne-eqb (stateOf s r) 1 n)
 
-    pub remove-working-done : stateOf s r ≡ 1
-        → changed (removedWorking s r) (removedServer s t) (stateWith t rows flags r) ≡ judged (requestBy (RemoveWorking s) key) found pick (stateWith t rows flags r)
+    pub remove-working-done : stateOf s r ≡ 1 → Due (changed (removedWorking s r) (removedServer s t) st) (RemoveWorking s)
     unfolding judged barred effect
     remove-working-done e = rw (eq-eqb (stateOf s r) 1 e)
 
-    pub add-horizon-3 : (stateOf s r ≡ 0 → ⊥)
-        → refused 3 (stateWith t rows flags r) ≡ judged (requestBy (AddHorizon s) key) found pick (stateWith t rows flags r)
+    pub add-horizon-3 : (stateOf s r ≡ 0 → ⊥) → Due (refused 3 st) (AddHorizon s)
     unfolding judged barred
     add-horizon-3 n = rw (ne-eqb (stateOf s r) 0 n)
 
-    pub add-horizon-6 : stateOf s r ≡ 0 → 64 ≤ r .held
-        → refused 6 (stateWith t rows flags r) ≡ judged (requestBy (AddHorizon s) key) found pick (stateWith t rows flags r)
+    pub add-horizon-6 : stateOf s r ≡ 0 → 64 ≤ r .held → Due (refused 6 st) (AddHorizon s)
     unfolding judged barred
     add-horizon-6 e h = rw (eq-eqb (stateOf s r) 0 e, le-leb 64 (r .held) h)
 
-    pub add-horizon-done : stateOf s r ≡ 0 → r .held < 64
-        → changed (addedHorizon s r) t (stateWith t rows flags r) ≡ judged (requestBy (AddHorizon s) key) found pick (stateWith t rows flags r)
+    pub add-horizon-done : stateOf s r ≡ 0 → r .held < 64 → Due (changed (addedHorizon s r) t st) (AddHorizon s)
     unfolding judged barred effect
     add-horizon-done e h = rw (eq-eqb (stateOf s r) 0 e, lt-leb 64 (r .held) h)
 
-    pub remove-horizon-4 : (stateOf s r ≡ 2 → ⊥)
-        → refused 4 (stateWith t rows flags r) ≡ judged (requestBy (RemoveHorizon s) key) found pick (stateWith t rows flags r)
+    pub remove-horizon-4 : (stateOf s r ≡ 2 → ⊥) → Due (refused 4 st) (RemoveHorizon s)
     unfolding judged barred
     remove-horizon-4 n = rw (ne-eqb (stateOf s r) 2 n)
 
-    pub remove-horizon-done : stateOf s r ≡ 2
-        → changed (removedHorizon s r) t (stateWith t rows flags r) ≡ judged (requestBy (RemoveHorizon s) key) found pick (stateWith t rows flags r)
+    pub remove-horizon-done : stateOf s r ≡ 2 → Due (changed (removedHorizon s r) t st) (RemoveHorizon s)
     unfolding judged barred effect
     remove-horizon-done e = rw (eq-eqb (stateOf s r) 2 e)
 
   module _ (c : Settings) where
-    pub configure-10-held : (r .held ≡ 0 → ⊥)
-        → refused 10 (stateWith t rows flags r) ≡ judged (requestBy (Configure c) key) found pick (stateWith t rows flags r)
+    pub configure-10-held : (r .held ≡ 0 → ⊥) → Due (refused 10 st) (Configure c)
     unfolding judged barred
     configure-10-held n = rw (ne-eqb (r .held) 0 n)
 
-    pub configure-10-used : r .held ≡ 0 → (used t ≡ 0 → ⊥)
-        → refused 10 (stateWith t rows flags r) ≡ judged (requestBy (Configure c) key) found pick (stateWith t rows flags r)
+    pub configure-10-used : r .held ≡ 0 → (used t ≡ 0 → ⊥) → Due (refused 10 st) (Configure c)
     unfolding judged barred
     configure-10-used e n = rw (eq-eqb (r .held) 0 e, ne-eqb (used t) 0 n)
 
-    pub configure-done : r .held ≡ 0 → used t ≡ 0
-        → configured c (stateWith t rows flags r) ≡ judged (requestBy (Configure c) key) found pick (stateWith t rows flags r)
+    pub configure-done : r .held ≡ 0 → used t ≡ 0 → Due (configured c st) (Configure c)
     unfolding judged barred effect
     configure-done e u = rw (eq-eqb (r .held) 0 e, eq-eqb (used t) 0 u)
 
@@ -98,14 +94,14 @@ module _ (key t rows flags : List ℕ) (pick : Pick) (r : Roster) (n : ℕ) wher
 module _ (next r₀ : Roster) (t t₀ rows flags : List ℕ) where
   pub changed-filled : (rows′ flags′ : List ℕ) → next .settings .method ≡ 3
       → record { servers = rows′; flags = flags′ } ≡ filled (next .settings .rows) (workingSet next) (horizon next) (record { servers = rows; flags = flags })
-      → record { answer = accepts 0 0 0; state = stateWith t rows′ flags′ next; redraw = false } ≡ changed next t (stateWith t₀ rows flags r₀)
+      → record { told = accepts 0 0 0; state = stateWith t rows′ flags′ next; redraw = false } ≡ changed next t (stateWith t₀ rows flags r₀)
   unfolding refilled
   changed-filled rows′ flags′ e f =
       let m : eqb (next .settings .method) 2 ≡ false = rw e in
       rw (m, eq-eqb (next .settings .method) 3 e)
-      (λ i. record { answer = accepts 0 0 0; state = stateWith t (f i .servers) (f i .flags) next; redraw = false })
+      (λ i. record { told = accepts 0 0 0; state = stateWith t (f i .servers) (f i .flags) next; redraw = false })
 
   pub changed-plain : (b : Bool) → (next .settings .method ≡ 3 → ⊥) → b ≡ eqb (next .settings .method) 2
-      → record { answer = accepts 0 0 0; state = stateWith t rows flags next; redraw = b } ≡ changed next t (stateWith t₀ rows flags r₀)
+      → record { told = accepts 0 0 0; state = stateWith t rows flags next; redraw = b } ≡ changed next t (stateWith t₀ rows flags r₀)
   unfolding refilled
   changed-plain b n e = rw (ne-eqb (next .settings .method) 3 n, e)

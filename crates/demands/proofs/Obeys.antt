@@ -11,6 +11,7 @@ use Rattle.event.specs.Event.{asksKey, eventIn}
 use Rattle.event.proofs.Reading.{reading}
 use Rattle.table.specs.Table.{find, started}
 use Rattle.ringplan.specs.Plan.{some}
+use Rattle.ringplan.proofs.Members.{some-member}
 use Rattle.rules.specs.Rules.{World, worldWith, Done, is, sizedFor, startOf, eventOf, judged, packet, barred, effect}
 use Rattle.histories.specs.Histories.{begins, startAccepted, after}
 use Rattle.histories.proofs.Inner.{Inner}
@@ -18,7 +19,7 @@ use Rattle.histories.proofs.Picking.{pickAt, pick-right}
 use Rattle.histories.proofs.Along.{event-judged, inner}
 use Rattle.histories.proofs.Never.{target-works}
 use Rattle.demands.specs.Demands.{ours, rankingOf, PacketRight, otherwise, Demand2}
-use Rattle.demands.proofs.Packets.{some-member, packet-right}
+use Rattle.demands.proofs.Packets.{packet-right}
 use Rattle.demands.proofs.Others.{asked-packet, judged-same}
 
 module _ (w : World) (i : Inner w) where

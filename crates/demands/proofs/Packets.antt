@@ -1,7 +1,7 @@
 -- What the rules do at a packet while some server works is what demand 2 says of it: one law for each mark.
 use Prim.Native.Nat.{ℕ, _<_, _≤_}
 use mathlib.Core.Bool.{Bool, true, false, not}
-use mathlib.Core.List.{List, [], _∷_}
+use mathlib.Core.List.{List}
 use mathlib.Core.Logic.{inl, inr, ⊎-elim}
 use mathlib.Core.Path.{_≡_, refl, sym, ap, _∙_}
 use native.Mathlib.Omega.{arith}
@@ -10,7 +10,6 @@ use lib.ListN.{length, length-append}
 use borrow.Author.Tests.{not-true, not-false, ltb-true, ltb-false}
 use Rattle.sets.specs.Sets.{member}
 use Rattle.sets.proofs.Cases.{both, clash}
-use Rattle.sets.proofs.Members.{member-head}
 use Rattle.ranking.specs.Ranking.{choice, unsafe, picked}
 use Rattle.ranking.proofs.Unsafe.{unsafe-outranked, change-outranked}
 use Rattle.roster.specs.declared.Roster.{Roster}
@@ -19,16 +18,10 @@ use Rattle.table.specs.Table.{find, serverAt, used, room, appended, noStray}
 use Rattle.table.proofs.Records.{used-within}
 use Rattle.table.proofs.Finds.{missing-reads}
 use Rattle.table.proofs.Stray.{used-appended}
-use Rattle.ringplan.specs.Plan.{some}
 use Rattle.rules.specs.Answer.{accepts}
 use Rattle.rules.specs.Rules.{State, packet}
 use Rattle.histories.proofs.Picking.{ranking-strict}
 use Rattle.demands.specs.Demands.{rankingOf, mover, Unsafe, Written, PacketRight}
-
--- while some server works there is one
-pub some-member : (l : List ℕ) → some l ≡ true → (s : ℕ) × (member s l ≡ true)
-some-member [] e = clash e refl
-some-member (x ∷ l) e = (x, member-head x l)
 
 -- a table isn't its own with a record more
 pub unwritten : (key : List ℕ) (s : ℕ) (t : List ℕ) → Written key s t t → ⊥

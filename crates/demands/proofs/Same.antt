@@ -17,11 +17,12 @@ use Rattle.table.specs.Table.{find, used, room}
 use Rattle.table.proofs.Records.{used-within}
 use Rattle.table.proofs.Finds.{missing-reads}
 use Rattle.ringplan.specs.Plan.{some}
+use Rattle.ringplan.proofs.Members.{some-member}
 use Rattle.rules.specs.Answer.{Answer, accepts}
 use Rattle.rules.specs.Rules.{Change, is, packet, barred, judged}
 use Rattle.histories.specs.Histories.{AllBytes}
 use Rattle.demands.specs.Demands.{Engine, rankingOf, mover, Unsafe, PacketRight, otherwise, Demand2}
-use Rattle.demands.proofs.Packets.{some-member, flagged, unflagged}
+use Rattle.demands.proofs.Packets.{flagged, unflagged}
 use Rattle.demands.proofs.Others.{Shows, asked-packet}
 
 -- a packet as the rules have it with the ranking's pick, over a table and a roster

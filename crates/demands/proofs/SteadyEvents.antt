@@ -1,21 +1,22 @@
 -- What an event can come to, a case for each, with what its acceptance says of the world before it; and every event comes to one of them.
-use Prim.Native.Nat.{ℕ, suc, _<_, _≤_}
+use Prim.Native.Nat.{ℕ, _<_}
 use mathlib.Core.Bool.{true, false, not}
 use mathlib.Core.List.{List}
-use mathlib.Core.Path.{_≡_, refl}
+use mathlib.Core.Path.{_≡_, refl, ap, _∙_}
 use native.Mathlib.Omega.{arith}
 use lib.Dec.{eqb, ltb}
-use borrow.Author.Tests.{eqb-true, eqb-false, eq-eqb, ltb-true, not-true}
+use borrow.Author.Tests.{eqb-true, ltb-true, not-true}
 use Rattle.sets.proofs.Cases.{both, clash}
 use Rattle.roster.specs.Roster.{working, standby, stateOf, addedWorking, removedWorking, addedHorizon, removedHorizon}
 use Rattle.event.specs.Event.{Request, asksKey, eventIn}
-use Rattle.event.proofs.Reading.{Outcome, refused as refused-record, keyed, naming, configured as configured-record, outcome, reading}
+use Rattle.event.proofs.Reading.{reading}
 use Rattle.table.specs.Table.{find, serverAt, used, room, appended, removed, removedServer}
 use Rattle.table.proofs.Finds.{missing-reads}
 use Rattle.rules.specs.Answer.{accepts}
-use Rattle.rules.specs.Rules.{World, State, Change, is, empty, target, barred, refused, answered, packet, end, changed, configured, effect, judged}
+use Rattle.rules.specs.Rules.{World, Change, target, barred, refused, answered, packet, end, changed, configured, effect, judged}
 use Rattle.histories.proofs.Picking.{pickAt}
-use Rattle.histories.proofs.Barring.{Passed, passed}
+use Rattle.histories.proofs.Barring.{passed}
+use Rattle.histories.proofs.EveryEvent.{Comes, turned as turned′, packets, ends, enters, leaves, stands, goes as departs, sets, comes}
 
 -- an accepted packet of a key: led to its record's server, or to the pick, and then perhaps recorded
 pub data Served (w : World) (key : List ℕ) : Change → Type 0 where
@@ -61,29 +62,6 @@ pub data Goes (w : World) (e : Request) : Change → Type 0 where
 abbrev pub changeOf : World → Request → Change
 changeOf w e = judged e (find (e .key) (w .state .table)) (pickAt w (e .key)) (w .state)
 
--- a record of kind 2 asks for the end of its key
-end-asks : {l : List ℕ} {e : Request} → Outcome l e → e .kind ≡ 2 → e ≡ asksKey 2 (e .key)
-end-asks (refused-record n low high) k = absurd (omega arith)
-end-asks {l} (keyed n low high s) k = rw k
-end-asks (naming n low high s) k = absurd (omega arith)
-end-asks (configured-record s v) k = absurd (omega arith)
-
--- an empty world holds no server
-empty-holds : (st : State) → empty st ≡ true → st .roster .held ≡ 0
-empty-holds st e =
-    eqb-true (st .roster .held) 0
-    (both (eqb (st .roster .held) 0) (λ t. t) (λ t. clash (rw t at e) refl))
-
--- a kind up to 7 that is none of the lower ones is 7
-past : {k : ℕ} (n : ℕ) → eqb k n ≡ false → n ≤ k → suc n ≤ k
-past {k} n e h = omega (arith, eqb-false k n e)
-
-last-kind : (k : ℕ) → k ≤ 7 → eqb k 0 ≡ false → eqb k 1 ≡ false → eqb k 2 ≡ false → eqb k 3 ≡ false → eqb k 4 ≡ false
-    → eqb k 5 ≡ false → eqb k 6 ≡ false → eqb k 7 ≡ true
-last-kind k small k₀ k₁ k₂ k₃ k₄ k₅ k₆ =
-    let h : 7 ≤ k = past 6 k₆ (past 5 k₅ (past 4 k₄ (past 3 k₃ (past 2 k₂ (past 1 k₁ (past 0 k₀ (omega arith))))))) in
-    eq-eqb k 7 (omega (arith, small, h))
-
 module _ (w : World) where
   -- a packet that is led to a working server
   pub served-packet : (key : List ℕ)
@@ -102,33 +80,20 @@ module _ (w : World) where
       rw (a, b, c, missing-reads key t a) (written a (rw a at s) (ltb-true (used t) (room t) u)))
       (λ c. rw (a, b, c) full)))
 
-  module _ (e : Request) (ends : e .kind ≡ 2 → e ≡ asksKey 2 (e .key)) where
-    goes-end : is 2 e ≡ true → Goes w e (end (find (e .key) (w .state .table)) (w .state))
+  module _ (e : Request) (asked : e .kind ≡ 2 → e ≡ asksKey 2 (e .key)) where
+    goes-end : e .kind ≡ 2 → Goes w e (end (find (e .key) (w .state .table)) (w .state))
     unfolding end
-    goes-end k =
-        both (find (e .key) (w .state .table) .found) (λ f. rw f (ended (ends (eqb-true (e .kind) 2 k)) f)) (λ f. rw f unknown)
+    goes-end k = both (find (e .key) (w .state .table) .found) (λ f. rw f (ended (asked k) f)) (λ f. rw f unknown)
 
-    goes-effect : e .kind ≤ 7 → is 0 e ≡ false → Passed e (find (e .key) (w .state .table)) (pickAt w (e .key)) (w .state)
-        → Goes w e (effect e (find (e .key) (w .state .table)) (pickAt w (e .key)) (w .state))
-    unfolding effect
-    goes-effect small k₀ p =
-        both (is 1 e) (λ k. rw k (served (served-packet (e .key) (p .led k)))) (λ k₁.
-        both (is 2 e) (λ k. rw (k₁, k) (goes-end k)) (λ k₂.
-        both (is 3 e) (λ k. rw (k₁, k₂, k) entered) (λ k₃.
-        both (is 4 e) (λ k. rw (k₁, k₂, k₃, k) (left (p .leaves k))) (λ k₄.
-        both (is 5 e) (λ k. rw (k₁, k₂, k₃, k₄, k) (stood (p .room k))) (λ k₅.
-        both (is 6 e) (λ k. rw (k₁, k₂, k₃, k₄, k₅, k) (went (p .goes k))) (λ k₆.
-        rw (k₁, k₂, k₃, k₄, k₅, k₆) (set (empty-holds (w .state) (p .configures (last-kind (e .kind) small k₀ k₁ k₂ k₃ k₄ k₅ k₆))))))))))
-
-    goes-judged : e .kind ≤ 7 → Goes w e (changeOf w e)
-    unfolding judged
-    goes-judged small =
-        let found = find (e .key) (w .state .table) in
-        let pick = pickAt w (e .key) in
-        both (is 0 e) (λ z. rw z (turned (e .refusal))) (λ z.
-        both (eqb (barred e found pick (w .state)) 0)
-        (λ q. rw (z, q) (goes-effect small z (passed e found pick (w .state) (eqb-true (barred e found pick (w .state)) 0 q))))
-        (λ q. rw (z, q) (turned (barred e found pick (w .state)))))
+    goes-on : {c : Change} → Comes e (find (e .key) (w .state .table)) (pickAt w (e .key)) (w .state) c → Goes w e c
+    goes-on (turned′ n) = turned n
+    goes-on (packets s) = served (served-packet (e .key) s)
+    goes-on (ends k) = goes-end k
+    goes-on (enters s) = entered
+    goes-on (leaves s) = left s
+    goes-on (stands k s room) = stood room
+    goes-on (departs s) = went s
+    goes-on (sets none) = set none
 
   -- a packet that is accepted
   pub served-accepted : (key : List ℕ)
@@ -145,4 +110,8 @@ module _ (w : World) where
 
 -- the event that a record of bytes is
 pub goes : (w : World) (bytes : List ℕ) → Goes w (eventIn bytes) (changeOf w (eventIn bytes))
-goes w bytes = goes-judged w (eventIn bytes) (end-asks (outcome bytes)) (reading bytes .kind-small)
+goes w bytes =
+    let e = eventIn bytes in
+    let f = reading bytes in
+    goes-on w e (λ k. f .key-asked (omega arith) (omega arith) ∙ ap (λ (n : ℕ). asksKey n (e .key)) k)
+    (comes e (find (e .key) (w .state .table)) (pickAt w (e .key)) (w .state) (f .kind-known))

@@ -14,8 +14,18 @@ use Rattle.bigendian.specs.BigEndian.{bytes4, number4At}
 use Rattle.bigendian.proofs.RoundTrip.{number4-bytes4}
 use Rattle.spans.specs.Spans.{allZero}
 use Rattle.settings.specs.declared.Settings.{Settings}
-use Rattle.settings.specs.Settings.{fresh, named, wellFormed, valid}
-use Rattle.event.specs.Event.{Request, noKey, refusedBy, asksKey, names, asksServer, configures, asksSettings, byKind, eventIn, allBytes}
+use Rattle.settings.specs.Settings.{named, wellFormed, valid}
+use Rattle.event.specs.Event.{Request, refusedBy, asksKey, names, asksServer, configures, asksSettings, byKind, eventIn, allBytes}
+
+-- the kinds of event
+pub data Kind : ℕ → Type 0 where
+  packet : Kind 1
+  end : Kind 2
+  addWorking : Kind 3
+  removeWorking : Kind 4
+  addHorizon : Kind 5
+  removeHorizon : Kind 6
+  configure : Kind 7
 
 -- the four things that a record can be
 pub data Outcome (l : List ℕ) : Request → Type 0 where
@@ -77,82 +87,70 @@ server-fits l b =
     rw (getD-drop 3 l 0 0, getD-drop 3 l 1 0, getD-drop 3 l 2 0, getD-drop 3 l 3 0)
     (omega (arith, bytes-at l b 3, bytes-at l b 4, bytes-at l b 5, bytes-at l b 6))
 
--- what holds of the fields of an event that a record is
+-- a packet and an end are kinds, and so are those that name a server
+keyed-kind : (k : ℕ) → 0 < k → k ≤ 2 → Kind k
+keyed-kind k low high =
+    both (eqb k 1) (λ e. rw (eqb-true k 1 e) packet) (λ e₁.
+    let e : k ≡ 2 = omega (arith, eqb-false k 1 e₁) in rw e end)
+
+naming-kind : (k : ℕ) → 3 ≤ k → k ≤ 6 → Kind k
+naming-kind k low high =
+    both (eqb k 3) (λ e. rw (eqb-true k 3 e) addWorking) (λ e₃.
+    both (eqb k 4) (λ e. rw (eqb-true k 4 e) removeWorking) (λ e₄.
+    both (eqb k 5) (λ e. rw (eqb-true k 5 e) addHorizon) (λ e₅.
+    let e : k ≡ 6 = omega (arith, eqb-false k 3 e₃, eqb-false k 4 e₄, eqb-false k 5 e₅) in rw e removeHorizon)))
+
+-- what holds of the fields of an event that a record is; only a refused one is of kind 0
 pub record Fields (l : List ℕ) (a : Request) : Type 0 where
   pub refusal-small : a .refusal ≤ 2
-  pub kind-small : a .kind ≤ 7
-  pub kind-refused : 0 < a .refusal → a .kind ≡ 0
-  pub kind-accepted : a .refusal ≡ 0 → 0 < a .kind
+  pub kind-known : 0 < a .kind → Kind (a .kind)
   pub key-sized : length (a .key) ≡ 13
-  pub key-body : 0 < a .kind → a .kind ≤ 2 → a .key ≡ drop 3 l
-  pub key-none : (a .kind ≡ 1 → ⊥) → (a .kind ≡ 2 → ⊥) → a .key ≡ noKey
+  pub key-asked : 0 < a .kind → a .kind ≤ 2 → a ≡ asksKey (a .kind) (a .key)
   pub server-some : 3 ≤ a .kind → a .kind ≤ 6 → 0 < a .server
-  pub server-none : (3 ≤ a .kind → a .kind ≤ 6 → ⊥) → a .server ≡ 0
   pub server-small : allBytes l ≡ true → a .server < 2 ^ 32
   pub settings-valid : valid (a .settings) ≡ true
-  pub settings-fresh : (a .kind ≡ 7 → ⊥) → a .settings ≡ fresh
 
 fields : {l : List ℕ} {a : Request} → Outcome l a → Fields l a
 unfolding valid
 fields (refused n low high) =
     record {
       refusal-small = high;
-      kind-small = omega arith;
-      kind-refused = λ _. refl;
-      kind-accepted = λ e. omega arith;
+      kind-known = λ p. absurd (omega arith);
       key-sized = refl;
-      key-body = λ p q. absurd (omega arith);
-      key-none = λ _ _. refl;
+      key-asked = λ p q. absurd (omega arith);
       server-some = λ p q. omega arith;
-      server-none = λ _. refl;
       server-small = λ _. omega arith;
       settings-valid = refl;
-      settings-fresh = λ _. refl;
     }
 fields {l} (keyed k low high n) =
     record {
       refusal-small = omega arith;
-      kind-small = omega arith;
-      kind-refused = λ p. omega arith;
-      kind-accepted = λ _. low;
+      kind-known = λ _. keyed-kind k low high;
       key-sized = simp length-drop (omega arith);
-      key-body = λ _ _. refl;
-      key-none = λ p q. absurd (omega (arith, p, q));
+      key-asked = λ _ _. refl;
       server-some = λ p q. omega arith;
-      server-none = λ _. refl;
       server-small = λ _. omega arith;
       settings-valid = refl;
-      settings-fresh = λ _. refl;
     }
 fields {l} (naming k low high some) =
     record {
       refusal-small = omega arith;
-      kind-small = omega arith;
-      kind-refused = λ p. omega arith;
-      kind-accepted = λ _. omega arith;
+      kind-known = λ _. naming-kind k low high;
       key-sized = refl;
-      key-body = λ p q. absurd (omega arith);
-      key-none = λ _ _. refl;
+      key-asked = λ p q. absurd (omega arith);
       server-some = λ _ _. some;
-      server-none = λ h. absurd (h low high);
       server-small = server-fits l;
       settings-valid = refl;
-      settings-fresh = λ _. refl;
     }
 fields (configured s ok) =
     record {
       refusal-small = omega arith;
-      kind-small = omega arith;
-      kind-refused = λ p. omega arith;
-      kind-accepted = λ _. omega arith;
+      kind-known = λ _. configure;
       key-sized = refl;
-      key-body = λ p q. absurd (omega arith);
-      key-none = λ _ _. refl;
+      key-asked = λ p q. absurd (omega arith);
       server-some = λ p q. omega arith;
-      server-none = λ _. refl;
       server-small = λ _. omega arith;
       settings-valid = ok;
-      settings-fresh = λ h. absurd (h refl);
     }
 
 pub reading : (l : List ℕ) → Fields l (eventIn l)

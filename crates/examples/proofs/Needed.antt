@@ -4,7 +4,7 @@ use Prim.Native.Nat.{ℕ}
 use mathlib.Core.Bool.{true, false}
 use mathlib.Core.List.{List, [], _∷_, _++_}
 use mathlib.Core.Logic.{_≢_}
-use mathlib.Core.Path.{_≡_, refl}
+use mathlib.Core.Path.{_≡_, refl, sym, _∙_}
 use native.Mathlib.Omega.{arith}
 use Rattle.sets.specs.Sets.{member}
 use Rattle.sets.proofs.Cases.{clash}
@@ -52,8 +52,12 @@ module _ (E : Engine) (h : List (List ℕ)) (earlier key : List ℕ) (m : ℕ) (
   abbrev pub ButRoomy : Type 0
   ButRoomy = Worked × Unended × Held
 
--- what demand 3 says, with other provisos Q in the place of its own
-abbrev pub Under : (List (List ℕ) → List ℕ → List ℕ → ℕ → List (List ℕ) → Type 0) → Engine → Type 0
+-- what demand 3 says, with other provisos Q in the place of its own: of the history before the earlier packet, that packet, its key and
+-- mover, and the records between
+abbrev pub Provided : Type 1
+Provided = List (List ℕ) → List ℕ → List ℕ → ℕ → List (List ℕ) → Type 0
+
+abbrev pub Under : Provided → Engine → Type 0
 Under Q E =
     (h between : List (List ℕ)) (earlier later key : List ℕ) → AllBytes (later ∷ (between ++ (earlier ∷ h)))
     → eventIn earlier ≡ asksKey 1 key → eventIn later ≡ asksKey 1 key → E .says h earlier .accepted ≡ true
@@ -64,79 +68,81 @@ Under Q E =
 pub under-provisos : (E : Engine) → Under (Provisos E) E → Demand3 E
 under-provisos E d = d
 
+-- it fails where two packets of key 1 get a and then b, while Q holds
+module _ (E : Engine) (Q : Provided) (h between : List (List ℕ)) (a b : ℕ) where
+  refuted : AllBytes (packetOf 1 ∷ (between ++ (packetOf 1 ∷ h))) → E .says h (packetOf 1) .accepted ≡ true
+      → E .says h (packetOf 1) .server ≡ a → E .says (between ++ (packetOf 1 ∷ h)) (packetOf 1) .server ≡ b → b ≢ a
+      → Q h (packetOf 1) (keyed 1) a between
+      → Under Q E → ⊥
+  unfolding computed
+  refuted bytes ok first second n q d =
+      n (sym second ∙ d h between (packetOf 1) (packetOf 1) (keyed 1) bytes refl refl ok (rw first q) .1 ∙ first)
+
 -- "provided that mover worked throughout": 2 and 3 work, and the packet gets 2; then 2 leaves work, and the later packet gets 3
 pub worked-needed : Under (ButWorked (ours (lent 2))) (ours (lent 2)) → ⊥
 unfolding computed
-worked-needed d =
-    let r =
-    d (enters 3 ∷ stands 3 ∷ two) (leaves 2 ∷ []) (packetOf 1) (packetOf 1) (keyed 1)
+worked-needed =
+    refuted (ours (lent 2)) (ButWorked (ours (lent 2))) (enters 3 ∷ stands 3 ∷ two) (leaves 2 ∷ []) 2 3
     (refl, (refl, (refl, (refl, (refl, (refl, (refl, (refl, tt))))))))
     refl
     refl
-    refl (
+    refl
+    (λ q. omega arith) (
       (other-kind (eventIn (leaves 2)) (keyed 1) 4 refl (λ q. omega arith), tt),
       (λ x m n. member-tail x 2 (3 ∷ []) m, tt),
       λ q. let z : _≡_ {A = ℕ} 2 4 = q in omega arith,
-    ) in
-    let z : _≡_ {A = ℕ} 3 2 = r .1 in
-    omega arith
+    )
 
 -- "the key wasn't ended between them": the packet gets 2 and is recorded; then 4 enters from the horizon and the key ends, and the later
 -- packet gets 4
 pub unended-needed : Under (ButUnended (ours (lent 2))) (ours (lent 2)) → ⊥
 unfolding computed
-unended-needed d =
-    let r =
-    d twoAndStandby (endOf 1 ∷ enters 4 ∷ []) (packetOf 1) (packetOf 1) (keyed 1)
+unended-needed =
+    refuted (ours (lent 2)) (ButUnended (ours (lent 2))) twoAndStandby (endOf 1 ∷ enters 4 ∷ []) 2 4
     (refl, (refl, (refl, (refl, (refl, (refl, (refl, (refl, tt))))))))
     refl
     refl
-    refl (
+    refl
+    (λ q. omega arith) (
       (refl, (refl, tt)),
       (λ x m n. clash m n, (λ x m n. m, tt)),
       λ q. let z : _≡_ {A = ℕ} 3 4 = q in omega arith,
-    ) in
-    let z : _≡_ {A = ℕ} 4 2 = r .1 in
-    omega arith
+    )
 
 -- "every mover brought into work between them was already working or in the horizon at the earlier packet": the packet gets 2, safely; then
 -- 4, unknown so far, comes into the horizon and into work, and the later packet gets 4
 pub held-needed : Under (ButHeld (ours (lent 2))) (ours (lent 2)) → ⊥
 unfolding computed
-held-needed d =
-    let r =
-    d two (enters 4 ∷ stands 4 ∷ []) (packetOf 1) (packetOf 1) (keyed 1)
+held-needed =
+    refuted (ours (lent 2)) (ButHeld (ours (lent 2))) two (enters 4 ∷ stands 4 ∷ []) 2 4
     (refl, (refl, (refl, (refl, (refl, (refl, (refl, tt)))))))
     refl
     refl
-    refl (
+    refl
+    (λ q. omega arith) (
       (refl, (refl, tt)),
       (
         other-kind (eventIn (enters 4)) (keyed 1) 3 refl (λ q. omega arith),
         (other-kind (eventIn (stands 4)) (keyed 1) 5 refl (λ q. omega arith), tt),
       ),
       λ q. let z : _≡_ {A = ℕ} 2 4 = q in omega arith,
-    ) in
-    let z : _≡_ {A = ℕ} 4 2 = r .1 in
-    omega arith
+    )
 
 -- "the earlier packet wasn't told there was no room": another key has the table's only record, so the packet gets 2 and is told; then 4
 -- enters from the horizon, and the later packet gets 4
 pub room-needed : Under (ButRoomy (ours (lent 1))) (ours (lent 1)) → ⊥
 unfolding computed
-room-needed d =
-    let r =
-    d (packetOf 7 ∷ twoAndStandby) (enters 4 ∷ []) (packetOf 1) (packetOf 1) (keyed 1)
+room-needed =
+    refuted (ours (lent 1)) (ButRoomy (ours (lent 1))) (packetOf 7 ∷ twoAndStandby) (enters 4 ∷ []) 2 4
     (refl, (refl, (refl, (refl, (refl, (refl, (refl, (refl, tt))))))))
     refl
     refl
-    refl (
+    refl
+    (λ q. omega arith) (
       (refl, tt),
       (other-kind (eventIn (enters 4)) (keyed 1) 3 refl (λ q. omega arith), tt),
       (λ x m n. m, tt),
-    ) in
-    let z : _≡_ {A = ℕ} 4 2 = r .1 in
-    omega arith
+    )
 
 -- what the two packets are told in each of the four
 pub told-each : (ours (lent 2) .says (enters 3 ∷ stands 3 ∷ two) (packetOf 1) ≡ accepts 2 2 0)

@@ -6,6 +6,7 @@ pub mod Drawing
 pub mod Inner
 pub mod Picking
 pub mod Barring
+pub mod EveryEvent
 pub mod Keeping
 pub mod Changing
 pub mod Along

@@ -1,14 +1,13 @@
 -- Refusals 8, 9 and 11 occur in no history from an accepted start.
 use Prim.Native.Nat.{ℕ, _-_, _<_}
 use mathlib.Core.Bool.{true}
-use mathlib.Core.List.{List, [], _∷_}
+use mathlib.Core.List.{List}
 use mathlib.Core.Path.{_≡_, refl, sym, ap, _∙_}
 use native.Mathlib.Omega.{arith}
 use lib.Dec.{eqb}
 use borrow.Author.Tests.{eqb-true, not-false}
 use Rattle.sets.specs.Sets.{member}
 use Rattle.sets.proofs.Cases.{both, clash}
-use Rattle.sets.proofs.Members.{member-head}
 use Rattle.ranking.specs.declared.Pick.{Pick}
 use Rattle.ranking.specs.Ranking.{choice}
 use Rattle.ranking.proofs.Choice.{choice-member}
@@ -20,6 +19,7 @@ use Rattle.table.specs.Table.{Finding, find, serverAt, usedPart}
 use Rattle.table.proofs.Records.{server-used}
 use Rattle.table.proofs.Finds.{found-from, found-within, found-first}
 use Rattle.ringplan.specs.Plan.{some}
+use Rattle.ringplan.proofs.Members.{some-member}
 use Rattle.rules.specs.Rules.{World, State, Done, is, target, barred, judged, eventOf}
 use Rattle.histories.specs.Histories.{startAccepted, after, answer, AllBytes, rankingFor}
 use Rattle.histories.proofs.Inner.{Inner}
@@ -38,10 +38,6 @@ judged-number e found pick st n q own none table =
     both (eqb (barred e found pick st) 0)
     (λ b. none (sym (effect-unrefused e found pick st) ∙ (rw (z, b) at q)))
     (λ b. table (rw (z, b) at q)))
-
-some-member : (l : List ℕ) → some l ≡ true → (s : ℕ) × (member s l ≡ true)
-some-member [] e = clash e refl
-some-member (x ∷ l) e = (x, member-head x l)
 
 module _ (w : World) (i : Inner w) (key : List ℕ) where
   -- the record that a key has names a working server,

@@ -27,6 +27,7 @@ use Rattle.rows.specs.Rows.{rowRead}
 use Rattle.ring.specs.declared.Entry.{Entry}
 use Rattle.ring.specs.Ring.{gives}
 use Rattle.ringplan.specs.Plan.{some}
+use Rattle.ringplan.proofs.Members.{member-some}
 use Rattle.rules.specs.declared.Reply.{Reply}
 use Rattle.rules.specs.declared.Reply.the-variants.{Refused}
 use Rattle.rules.specs.Answer.{accepts}
@@ -35,10 +36,6 @@ use Rattle.answers.specs.Reacting.{replied}
 use Rattle.packets.specs.Lent.{Lent}
 
 -- ---- a sound roster: who works is in the working set, and the choice over that set works
-
-some-member : (x : ℕ) (l : List ℕ) → member x l ≡ true → some l ≡ true
-some-member x [] m = m
-some-member x (s ∷ l) m = refl
 
 module _ (R : Ranking) (S : Strict R) where
   choice-some : (l : List ℕ) → (choice R l ≡ 0 → ⊥) → member (choice R l) l ≡ true
@@ -93,7 +90,7 @@ module _ (key t rows flags : List ℕ) (pick : Pick) (r : Roster) (found : Findi
     pub led-on : stateIn (target found pick st) ss xs ≡ 1 → packet key found pick st ≡ judged (asksKey 1 key) found pick st
     led-on w =
         let works : stateOf (target found pick st) r ≡ 1 = rw (l .servers, l .states) w in
-        packet-on (some-member (target found pick st) (workingSet r) (working-state r (l .sound) (target found pick st) ∙ eq-eqb (stateOf (target found pick st) r) 1 works)) works
+        packet-on (member-some (target found pick st) (workingSet r) (working-state r (l .sound) (target found pick st) ∙ eq-eqb (stateOf (target found pick st) r) 1 works)) works
 
 -- the server that HRW chooses needs no test: it is one of those that work, and 0 where none does
 module _ (key t rows flags : List ℕ) (d : ℕ) (r : Roster) (so : sound r ≡ true) (n : ℕ) where
@@ -112,7 +109,7 @@ module _ (key t rows flags : List ℕ) (d : ℕ) (r : Roster) (so : sound r ≡ 
   chosen-on z =
       let m : member (best .server) (workingSet r) ≡ true = choice-some (hrw d) (hrw-strict d) (workingSet r) z in
       packet-on key t rows flags best r (record { found = false; reads = n })
-      (some-member (best .server) (workingSet r) m)
+      (member-some (best .server) (workingSet r) m)
       (eqb-true (stateOf (best .server) r) 1 (sym (working-state r so (best .server)) ∙ m))
 
 -- ---- a key without a record, whose server works

@@ -60,12 +60,6 @@ module _ (s : ℕ) (r : Roster) where
   pub addedWorking-state : stateOf s r ≡ standby → (x : ℕ) → stateOf x (addedWorking s r) ≡ cond (eqb x s) working (stateOf x r)
   addedWorking-state e x = restate-state s 1 r x (λ q. omega (arith, e, q))
 
-  pub addedWorking-held : addedWorking s r .held ≡ r .held
-  addedWorking-held = refl
-
-  pub addedWorking-settings : addedWorking s r .settings ≡ r .settings
-  addedWorking-settings = refl
-
 -- remove working
 module _ (s : ℕ) (r : Roster) where
   pub removedWorking-sized : Sized r → Sized (removedWorking s r)
@@ -77,12 +71,6 @@ module _ (s : ℕ) (r : Roster) where
 
   pub removedWorking-state : stateOf s r ≡ working → (x : ℕ) → stateOf x (removedWorking s r) ≡ cond (eqb x s) standby (stateOf x r)
   removedWorking-state e x = restate-state s 2 r x (λ q. omega (arith, e, q))
-
-  pub removedWorking-held : removedWorking s r .held ≡ r .held
-  removedWorking-held = refl
-
-  pub removedWorking-settings : removedWorking s r .settings ≡ r .settings
-  removedWorking-settings = refl
 
 allZero-tail : (l : List ℕ) (n : ℕ) → n < length l → allZero (drop n l) ≡ true → allZero (drop (n + 1) l) ≡ true
 unfolding allZero

@@ -15,15 +15,9 @@ use Rattle.spans.specs.Spans.{allZero, closed}
 use Rattle.lists.specs.Lists.{placeIn, takenOut}
 use Rattle.roster.specs.Roster.{stateIn, restated}
 use Rattle.lists.proofs.Moves.{take-out}
+use Rattle.roster.proofs.Lent.{state-here}
 
 module _ (s : ℕ) where
-  pub state-at : (ys xs : List ℕ) → placeIn s ys < length ys → length ys ≤ length xs → stateIn s ys xs ≡ getD xs (placeIn s ys) 0
-  unfolding stateIn placeIn
-  state-at [] xs h k = absurd (not-suc-le-zero h)
-  state-at (y ∷ ys) [] h k = absurd (not-suc-le-zero k)
-  state-at (y ∷ ys) (x ∷ xs) h k =
-      both (eqb y s) (λ t. rw t) (λ t. rw t (state-at ys xs (le-of-suc-le-suc (rw t at h)) (le-of-suc-le-suc k)))
-
   pub state-none : (ys xs : List ℕ) → length ys ≤ placeIn s ys → stateIn s ys xs ≡ 0
   unfolding stateIn placeIn
   state-none [] xs h = refl
@@ -54,21 +48,19 @@ module _ (s : ℕ) where
 
 -- h held of 64 places, of which n are in use
 module _ (h n : ℕ) (l : List ℕ) (w : length l ≡ 64) (e : n ≡ min h 64) where
-  pub take-used : take n l ≡ take h l
-  take-used =
+  -- what is the same from 64 on is the same of both
+  same-used : {A : Type 0} (f : ℕ → A) (end : A) → ((i : ℕ) → 64 ≤ i → f i ≡ end) → f n ≡ f h
+  same-used f end past =
       both
       (leb h 64)
       (λ t. let k : h ≤ 64 = leb-true h 64 t in let q : n ≡ h = omega arith in rw q)
-      (λ t. let k : 64 < h = leb-false h 64 t in take-all n l (omega arith) ∙ sym (take-all h l (omega arith)))
+      (λ t. let k : 64 < h = leb-false h 64 t in past n (omega arith) ∙ sym (past h (omega arith)))
+
+  pub take-used : take n l ≡ take h l
+  take-used = same-used (λ (i : ℕ). take i l) l (λ i q. take-all i l (omega arith))
 
   pub drop-used : drop n l ≡ drop h l
-  drop-used =
-      both
-      (leb h 64)
-      (λ t. let k : h ≤ 64 = leb-true h 64 t in let q : n ≡ h = omega arith in rw q)
-      (λ t.
-      let k : 64 < h = leb-false h 64 t in
-      drop-of-length-le l {i = n} (omega arith) ∙ sym (drop-of-length-le l {i = h} (omega arith)))
+  drop-used = same-used (λ (i : ℕ). drop i l) [] (λ i q. drop-of-length-le l {i = i} (omega arith))
 
   pub length-used : length (take n l) ≡ n
   length-used = length-take-le n l (omega arith)
@@ -80,7 +72,7 @@ module _ (s h n p : ℕ) (ss xs : List ℕ) (ws : length ss ≡ 64) (wx : length
       let ls : length (take n ss) ≡ n = length-used h n ss ws e in
       let lx : length (take n xs) ≡ n = length-used h n xs wx e in
       rw (← take-used h n ss ws e, ← take-used h n xs wx e)
-      (sym (getD-take n xs p 0 k) ∙ ap (λ (i : ℕ). getD (take n xs) i 0) at ∙ sym (state-at s (take n ss) (take n xs) (omega arith) (omega arith)))
+      (sym (getD-take n xs p 0 k) ∙ ap (λ (i : ℕ). getD (take n xs) i 0) at ∙ sym (state-here s (take n ss) (take n xs) (omega arith) (omega arith)))
 
   pub no-state : n ≤ p → 0 ≡ stateIn s (take h ss) (take h xs)
   no-state k =

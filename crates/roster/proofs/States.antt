@@ -19,6 +19,27 @@ eqb-swap : (a b : ℕ) (t : Bool) → eqb a b ≡ t → eqb b a ≡ t
 eqb-swap a b true e = eq-eqb b a (sym (eqb-true a b e))
 eqb-swap a b false e = ne-eqb b a (λ q. eqb-false a b e (sym q))
 
+-- a server y, compared with s and with x: how the three tests go together
+compared : {C : Type 0} (x y s : ℕ)
+    → (eqb y s ≡ true → eqb x s ≡ true → eqb y x ≡ true → C)
+    → (eqb y s ≡ true → eqb x s ≡ false → eqb y x ≡ false → C)
+    → (eqb y s ≡ false → eqb x s ≡ false → eqb y x ≡ true → C)
+    → (eqb y s ≡ false → eqb y x ≡ false → C)
+    → C
+compared x y s all only-s only-x neither =
+    both
+    (eqb y s)
+    (λ t.
+    both
+    (eqb x s)
+    (λ u. all t u (eq-eqb y x (eqb-true y s t ∙ sym (eqb-true x s u))))
+    (λ u. only-s t u (ne-eqb y x (λ q. eqb-false x s u (sym q ∙ eqb-true y s t)))))
+    (λ t.
+    both
+    (eqb y x)
+    (λ u. only-x t (ne-eqb x s (λ q. eqb-false y s t (eqb-true y x u ∙ q))) u)
+    (λ u. neither t u))
+
 pub state-absent : (x : ℕ) (ys xs : List ℕ) → member x ys ≡ false → stateIn x ys xs ≡ 0
 unfolding stateIn
 state-absent x [] xs m = refl
@@ -65,25 +86,11 @@ unfolding stateIn restated
 state-restated x s k [] xs n = absurd (n refl)
 state-restated x s k (y ∷ ys) [] n = absurd (n refl)
 state-restated x s k (y ∷ ys) (z ∷ xs) n =
-    both
-    (eqb y s)
-    (λ t.
-    both
-    (eqb x s)
-    (λ u.
-    let h : eqb y x ≡ true = eq-eqb y x (eqb-true y s t ∙ sym (eqb-true x s u)) in
-    rw (t, u, h))
-    (λ u.
-    let h : eqb y x ≡ false = ne-eqb y x (λ q. eqb-false x s u (sym q ∙ eqb-true y s t)) in
-    rw (t, u, h)))
-    (λ t.
-    let i : stateIn x ys (restated s k ys xs) ≡ cond (eqb x s) k (stateIn x ys xs) = state-restated x s k ys xs (rw t at n) in
-    both
-    (eqb y x)
-    (λ u.
-    let h : eqb x s ≡ false = ne-eqb x s (λ q. eqb-false y s t (eqb-true y x u ∙ q)) in
-    rw (t, u, h))
-    (λ u. rw (t, u) i))
+    compared x y s
+    (λ t u h. rw (t, u, h))
+    (λ t u h. rw (t, u, h))
+    (λ t u h. rw (t, u, h))
+    (λ t h. rw (t, h) (state-restated x s k ys xs (rw t at n)))
 
 -- a new server, put in at its place with state k
 pub state-in : (x s k : ℕ) (ys xs : List ℕ) → length ys ≡ length xs
@@ -114,21 +121,10 @@ unfolding stateIn placeIn
 state-out last x s [] xs e l = both (eqb x s) (λ t. rw t) (λ t. rw t)
 state-out last x s (y ∷ ys) [] e l = absurd (omega arith)
 state-out last x s (y ∷ ys) (z ∷ xs) e l =
-    both
-    (eqb y s)
-    (λ t.
-    both
-    (eqb x s)
-    (λ u.
-    let q : x ≡ y = eqb-true x s u ∙ sym (eqb-true y s t) in
+    compared x y s
+    (λ t u h.
+    let q : y ≡ x = eqb-true y x h in
     rw (t, u) (state-absent x ys xs (rise-none y x ys (rise-tail last y ys e) (omega arith))))
-    (λ u.
-    let h : eqb y x ≡ false = ne-eqb y x (λ q. eqb-false x s u (sym q ∙ eqb-true y s t)) in
-    rw (t, u, h)))
-    (λ t.
-    both
-    (eqb y x)
-    (λ u.
-    let h : eqb x s ≡ false = ne-eqb x s (λ q. eqb-false y s t (eqb-true y x u ∙ q)) in
-    rw (t, u, h))
-    (λ u. rw (t, u) (state-out y x s ys xs (rise-tail last y ys e) (omega arith))))
+    (λ t u h. rw (t, u, h))
+    (λ t u h. rw (t, u, h))
+    (λ t h. rw (t, h) (state-out y x s ys xs (rise-tail last y ys e) (omega arith)))
