@@ -8,6 +8,8 @@ use Rattle.rules.specs.declared.Reply.{Reply}
 use Rattle.rules.specs.Rules.{Change}
 use Rattle.rules.proofs.Apart.{answer-apart}
 use Rattle.answers.specs.declared.Reaction.{Reaction}
+use Rattle.answers.specs.declared.ReplyNumbers.{ReplyNumbers}
+use Rattle.answers.proofs.numbers.Reads.{Learnt as numbers-promise}
 use Rattle.answers.proofs.refused.Reads.{Learnt as refused-promise}
 use Rattle.answers.proofs.stays.Reads.{Learnt as stays-promise}
 use Rattle.answers.proofs.taken.Reads.{Learnt as taken-promise}
@@ -60,3 +62,12 @@ stays-unique κs a v v′ e e′ p q = reaction-unique v v′ [] [] [] [] [] [] 
 
 pub taken-unique : (κs : _) (a : _) (v v′ : Reaction) (e e′ : _) → taken-promise κs a v e → taken-promise κs a v′ e′ → v ≡ v′
 taken-unique κs a v v′ e e′ p q = reaction-unique v v′ [] [] [] [] [] [] _ (p [] [] []) (q [] [] []) .reaction
+
+pub numbers-unique : (κs : _) (a : _) (x y : ReplyNumbers) (e e′ : _) → numbers-promise κs a x e → numbers-promise κs a y e′ → x ≡ y
+numbers-unique κs a x y e e′ p q =
+    λ i. record {
+      refusal = (p .refusal ∙ sym (q .refusal)) i;
+      server = (p .server ∙ sym (q .server)) i;
+      mark = (p .mark ∙ sym (q .mark)) i;
+      reads = (p .reads ∙ sym (q .reads)) i;
+    }

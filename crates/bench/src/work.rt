@@ -1,5 +1,6 @@
 // The work: which event comes next, and what becomes of it when the reply is heard.
 use crate::keys;
+use answers::ReplyNumbers;
 use libc::STDOUT_FILENO;
 use rules::Reply;
 
@@ -96,17 +97,9 @@ fn working(p: Plan) -> u64 {
     p.servers - p.horizon
 }
 
-// A reply's four numbers.
-struct Said {
-    refusal: u8,
-    server: u32,
-    mark: u8,
-    reads: usize,
-}
-
 // The work behind a reply: it is tallied, and the next event comes, or the next phase where this one has no more.
 pub(crate) fn hear(p: Plan, w: Work, reply: Reply) -> Work {
-    let v = tallied(w, parts(reply));
+    let v = tallied(w, answers::numbers(reply));
     let phase = v.phase;
     match phase {
         Phase::Configuring => with(v, Phase::Adding, 0),
@@ -119,36 +112,10 @@ pub(crate) fn hear(p: Plan, w: Work, reply: Reply) -> Work {
     }
 }
 
-// A reply in numbers.
-fn parts(reply: Reply) -> Said {
-    match reply {
-        Reply::Accepted {
-            server,
-            mark,
-            reads,
-        } => {
-            Said {
-                refusal: 0,
-                server: server,
-                mark: mark,
-                reads: reads,
-            }
-        }
-        Reply::Refused(number) => {
-            Said {
-                refusal: number,
-                server: 0,
-                mark: 0,
-                reads: 0,
-            }
-        }
-    }
-}
-
 // The work with a reply in its tally, and one event more done.
-fn tallied(w: Work, s: Said) -> Work {
+fn tallied(w: Work, s: ReplyNumbers) -> Work {
     let sum = keys::with_reply(w.tally.sum, s.refusal, s.server, s.mark, s.reads);
-    let used = more_if(s.mark == 3, w.tally.used);
+    let used = more_if(s.mark == rules::CHOSEN_RECORDED, w.tally.used);
     let refused = more_if(s.refusal > 0, w.tally.refused);
     let mut v = w;
     v.tally.sum = sum;

@@ -15,7 +15,7 @@ use Rattle.event.specs.declared.Ask.the-variants.{End, AddWorking, RemoveWorkin
 use Rattle.rows.specs.Rows.{Rows, filled}
 use Rattle.table.specs.Table.{Finding, used, removed, removedServer}
 use Rattle.rules.specs.Answer.{accepts}
-use Rattle.rules.specs.Rules.{stateWith, State, Change, judged, barred, effect, end, refused, answered, changed, configured, refilled}
+use Rattle.rules.specs.Rules.{stateWith, State, Change, judged, barred, effect, end, refused, answered, taken, changed, configured, refilled}
 
 module _ (key t rows flags : List ℕ) (found : Finding) (pick : Pick) (r : Roster) where
   abbrev st : State
@@ -94,14 +94,14 @@ module _ (key t rows flags : List ℕ) (pick : Pick) (r : Roster) (n : ℕ) wher
 module _ (next r₀ : Roster) (t t₀ rows flags : List ℕ) where
   pub changed-filled : (rows′ flags′ : List ℕ) → next .settings .method ≡ 3
       → record { servers = rows′; flags = flags′ } ≡ filled (next .settings .rows) (workingSet next) (horizon next) (record { servers = rows; flags = flags })
-      → record { told = accepts 0 0 0; state = stateWith t rows′ flags′ next; redraw = false } ≡ changed next t (stateWith t₀ rows flags r₀)
+      → taken false (stateWith t rows′ flags′ next) ≡ changed next t (stateWith t₀ rows flags r₀)
   unfolding refilled
   changed-filled rows′ flags′ e f =
       let m : eqb (next .settings .method) 2 ≡ false = rw e in
       rw (m, eq-eqb (next .settings .method) 3 e)
-      (λ i. record { told = accepts 0 0 0; state = stateWith t (f i .servers) (f i .flags) next; redraw = false })
+      (λ i. taken false (stateWith t (f i .servers) (f i .flags) next))
 
   pub changed-plain : (b : Bool) → (next .settings .method ≡ 3 → ⊥) → b ≡ eqb (next .settings .method) 2
-      → record { told = accepts 0 0 0; state = stateWith t rows flags next; redraw = b } ≡ changed next t (stateWith t₀ rows flags r₀)
+      → taken b (stateWith t rows flags next) ≡ changed next t (stateWith t₀ rows flags r₀)
   unfolding refilled
   changed-plain b n e = rw (ne-eqb (next .settings .method) 3 n, e)

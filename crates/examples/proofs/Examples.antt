@@ -23,7 +23,7 @@ use Rattle.rules.specs.Answer.{accepts}
 use Rattle.rules.specs.Rules.{World, sizesRight, lentBar, admitted, barred, packet, end, refilled, effect, judged, pickBy, eventOf, startOf}
 use Rattle.histories.specs.Histories.{after, rankingFor}
 use Rattle.demands.specs.Demands.{ours, Provisos}
-use Rattle.demands.proofs.Steady.{steady}
+use Rattle.demands.proofs.Steady.{ours-steady}
 
 -- all that a history under one row computes by
 unfoldable pub computed : Unit {0}
@@ -128,9 +128,10 @@ pub joins-steady : (ours (lent 2) .says (joins ++ (packetOf 1 ∷ twoAndStandby)
     × (ours (lent 2) .says (joins ++ (packetOf 1 ∷ twoAndStandby)) (packetOf 1) .server ≡ 2)
 unfolding computed
 joins-steady =
-    steady (lent 2) refl twoAndStandby joins (packetOf 1) (packetOf 1) (keyed 1)
+    let s = ours-steady (lent 2) refl .steady twoAndStandby joins (packetOf 1) (packetOf 1) (keyed 1)
     (refl, (refl, (refl, (refl, (refl, (refl, (refl, (refl, (refl, tt)))))))))
     refl
     refl
     refl
-    joins-provisos
+    joins-provisos in
+    (s .accepted, s .same)

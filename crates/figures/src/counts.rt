@@ -36,7 +36,7 @@ fn by_hrw(counts: &mut [u32], points: &[u32], servers: &[u32], states: &[u8]) {
         tally(
             counts,
             servers,
-            hrw::pick(servers, states, points[i] % 2147483648),
+            hrw::pick(servers, states, hash::digest(points[i])),
         );
         i += 1;
     }

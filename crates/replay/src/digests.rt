@@ -87,23 +87,12 @@ fn next(n: u64) {
 }
 
 // Prints a space before each of: refusal (0 if accepted), server, mark, reads.
-fn reply(reply: Reply) {
-    match reply {
-        Reply::Accepted {
-            server,
-            mark,
-            reads,
-        } => facts(0, server, mark, reads),
-        Reply::Refused(n) => facts(n, 0, 0, 0),
-    }
-}
-
-// The four numbers of a reply.
-fn facts(refusal: u8, server: u32, mark: u8, reads: usize) {
-    next(refusal as u64);
-    next(server as u64);
-    next(mark as u64);
-    next(reads as u64);
+fn told(reply: Reply) {
+    let n = answers::numbers(reply);
+    next(n.refusal as u64);
+    next(n.server as u64);
+    next(n.mark as u64);
+    next(n.reads as u64);
 }
 
 // Prints the digests of ring and roster; a ring of 63 entries has none.
@@ -121,9 +110,9 @@ fn rest(what: u32, ring: [Entry; 64], roster: Roster) {
 pub(crate) fn line(what: u32, tried: Tried, table: &[u8], rows: &[u32], flags: &[u8]) {
     let outcome = tried.outcome;
     let ring = tried.ring;
-    let told = outcome.reply;
+    let reply = outcome.reply;
     let roster = outcome.roster;
-    reply(told);
+    told(reply);
     next(table::used(table) as u64);
     digest(over_bytes(NOTHING, table));
     digest(over_numbers(NOTHING, rows));

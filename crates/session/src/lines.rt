@@ -5,15 +5,8 @@ use crate::blocks;
 use crate::blocks::HALF;
 use crate::blocks::LAST;
 use crate::blocks::Place;
+use answers::ReplyNumbers;
 use rules::Reply;
-
-// What a line says of a reply.
-struct Said {
-    refusal: u64,
-    server: u64,
-    mark: u64,
-    reads: u64,
-}
 
 // Puts the line for a record's answer behind the text, and finds the next record. Text that has no room for the line is
 // written first.
@@ -31,7 +24,7 @@ pub(crate) fn next(buffer: &mut [u8], table: &[u8], place: Place, reply: Reply) 
         from,
         number(place.left),
         kind,
-        parts(reply),
+        answers::numbers(reply),
         table::used(table) as u64,
     );
     blocks::find(
@@ -65,45 +58,26 @@ fn number(left: u64) -> u64 {
     LAST - left + 1
 }
 
-// A reply in the numbers that a line has.
-fn parts(reply: Reply) -> Said {
-    match reply {
-        Reply::Accepted {
-            server,
-            mark,
-            reads,
-        } => {
-            Said {
-                refusal: 0,
-                server: server as u64,
-                mark: mark as u64,
-                reads: reads as u64,
-            }
-        }
-        Reply::Refused(number) => {
-            Said {
-                refusal: number as u64,
-                server: 0,
-                mark: 0,
-                reads: 0,
-            }
-        }
-    }
-}
-
 // A byte as a number.
 fn wide(x: u8) -> u64 {
     x as u64
 }
 
 // Puts a line at an index, and says where it ends.
-fn line(buffer: &mut [u8], from: usize, number: u64, kind: u64, said: Said, used: u64) -> usize {
+fn line(
+    buffer: &mut [u8],
+    from: usize,
+    number: u64,
+    kind: u64,
+    said: ReplyNumbers,
+    used: u64,
+) -> usize {
     let a = put(buffer, from, number, b' ');
     let b = put(buffer, a, kind, b' ');
-    let c = put(buffer, b, said.refusal, b' ');
-    let d = put(buffer, c, said.server, b' ');
-    let e = put(buffer, d, said.mark, b' ');
-    let f = put(buffer, e, said.reads, b' ');
+    let c = put(buffer, b, said.refusal as u64, b' ');
+    let d = put(buffer, c, said.server as u64, b' ');
+    let e = put(buffer, d, said.mark as u64, b' ');
+    let f = put(buffer, e, said.reads as u64, b' ');
     put(buffer, f, used, b'\n')
 }
 
