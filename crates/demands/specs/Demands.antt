@@ -146,6 +146,14 @@ pub record SameMover (E : Engine) (h between : List (List ℕ)) (earlier later k
   pub last : E .says (between ++ (earlier ∷ h)) later .server
       ≡ mover key (E .table (between ++ (earlier ∷ h))) (E .roster (between ++ (earlier ∷ h)))
 
+-- "two successive packets of one key get the same mover, provided" Q, which is asked of the history before the earlier packet, that packet, its
+-- key and mover, and the records between
+abbrev pub Steady : (List (List ℕ) → List ℕ → List ℕ → ℕ → List (List ℕ) → Type 0) → Engine → Type 0
+Steady Q E =
+    (h between : List (List ℕ)) (earlier later key : List ℕ) → AllBytes (later ∷ (between ++ (earlier ∷ h)))
+    → eventIn earlier ≡ asksKey 1 key → eventIn later ≡ asksKey 1 key → E .says h earlier .accepted ≡ true
+    → Q h earlier key (E .says h earlier .server) between → SameMover E h between earlier later key
+
 pub record Demand3 (E : Engine) : Type 0 where
   -- "no key is recorded twice": of two records in the used part the keys differ
   pub once : (h : List (List ℕ)) → AllBytes h → (front middle back : List Rec) (r r′ : Rec)
@@ -154,6 +162,4 @@ pub record Demand3 (E : Engine) : Type 0 where
   pub named : (h : List (List ℕ)) → AllBytes h → (front back : List Rec) (r : Rec) → entries (E .table h) ≡ front ++ (r ∷ back)
       → stateOf (r .server) (E .roster h) ≡ working
   -- "And two successive packets of one key get the same mover, provided .."
-  pub steady : (h between : List (List ℕ)) (earlier later key : List ℕ) → AllBytes (later ∷ (between ++ (earlier ∷ h)))
-      → eventIn earlier ≡ asksKey 1 key → eventIn later ≡ asksKey 1 key → E .says h earlier .accepted ≡ true
-      → Provisos E h earlier key (E .says h earlier .server) between → SameMover E h between earlier later key
+  pub steady : Steady (Provisos E) E

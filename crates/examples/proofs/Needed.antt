@@ -13,7 +13,7 @@ use Rattle.roster.specs.Roster.{working, stateOf, heldServers, workingSet}
 use Rattle.event.specs.Event.{asksKey, eventIn}
 use Rattle.rules.specs.Answer.{accepts}
 use Rattle.histories.specs.Histories.{AllBytes}
-use Rattle.demands.specs.Demands.{Engine, ours, Throughout, Provisos, Demand3}
+use Rattle.demands.specs.Demands.{Engine, ours, Throughout, Provisos, Steady}
 use Rattle.examples.proofs.Examples.{computed, lent, enters, leaves, stands, keyed, packetOf, endOf, two, twoAndStandby, other-kind}
 
 -- the provisos one by one, of an engine, the history before the earlier packet, that packet, its key and mover, and the records between
@@ -52,34 +52,18 @@ module _ (E : Engine) (h : List (List ℕ)) (earlier key : List ℕ) (m : ℕ) (
   abbrev pub ButRoomy : Type 0
   ButRoomy = Worked × Unended × Held
 
--- what demand 3 says, with other provisos Q in the place of its own: of the history before the earlier packet, that packet, its key and
--- mover, and the records between
-abbrev pub Provided : Type 1
-Provided = List (List ℕ) → List ℕ → List ℕ → ℕ → List (List ℕ) → Type 0
-
-abbrev pub Under : Provided → Engine → Type 0
-Under Q E =
-    (h between : List (List ℕ)) (earlier later key : List ℕ) → AllBytes (later ∷ (between ++ (earlier ∷ h)))
-    → eventIn earlier ≡ asksKey 1 key → eventIn later ≡ asksKey 1 key → E .says h earlier .accepted ≡ true
-    → Q h earlier key (E .says h earlier .server) between
-    → (E .says (between ++ (earlier ∷ h)) later .accepted ≡ true)
-    × (E .says (between ++ (earlier ∷ h)) later .server ≡ E .says h earlier .server)
-
-pub under-provisos : (E : Engine) → Under (Provisos E) E → Demand3 E
-under-provisos E d = d
-
 -- it fails where two packets of key 1 get a and then b, while Q holds
-module _ (E : Engine) (Q : Provided) (h between : List (List ℕ)) (a b : ℕ) where
+module _ (E : Engine) (Q : List (List ℕ) → List ℕ → List ℕ → ℕ → List (List ℕ) → Type 0) (h between : List (List ℕ)) (a b : ℕ) where
   refuted : AllBytes (packetOf 1 ∷ (between ++ (packetOf 1 ∷ h))) → E .says h (packetOf 1) .accepted ≡ true
       → E .says h (packetOf 1) .server ≡ a → E .says (between ++ (packetOf 1 ∷ h)) (packetOf 1) .server ≡ b → b ≢ a
       → Q h (packetOf 1) (keyed 1) a between
-      → Under Q E → ⊥
+      → Steady Q E → ⊥
   unfolding computed
   refuted bytes ok first second n q d =
-      n (sym second ∙ d h between (packetOf 1) (packetOf 1) (keyed 1) bytes refl refl ok (rw first q) .1 ∙ first)
+      n (sym second ∙ d h between (packetOf 1) (packetOf 1) (keyed 1) bytes refl refl ok (rw first q) .same ∙ first)
 
 -- "provided that mover worked throughout": 2 and 3 work, and the packet gets 2; then 2 leaves work, and the later packet gets 3
-pub worked-needed : Under (ButWorked (ours (lent 2))) (ours (lent 2)) → ⊥
+pub worked-needed : Steady (ButWorked (ours (lent 2))) (ours (lent 2)) → ⊥
 unfolding computed
 worked-needed =
     refuted (ours (lent 2)) (ButWorked (ours (lent 2))) (enters 3 ∷ stands 3 ∷ two) (leaves 2 ∷ []) 2 3
@@ -95,7 +79,7 @@ worked-needed =
 
 -- "the key wasn't ended between them": the packet gets 2 and is recorded; then 4 enters from the horizon and the key ends, and the later
 -- packet gets 4
-pub unended-needed : Under (ButUnended (ours (lent 2))) (ours (lent 2)) → ⊥
+pub unended-needed : Steady (ButUnended (ours (lent 2))) (ours (lent 2)) → ⊥
 unfolding computed
 unended-needed =
     refuted (ours (lent 2)) (ButUnended (ours (lent 2))) twoAndStandby (endOf 1 ∷ enters 4 ∷ []) 2 4
@@ -111,7 +95,7 @@ unended-needed =
 
 -- "every mover brought into work between them was already working or in the horizon at the earlier packet": the packet gets 2, safely; then
 -- 4, unknown so far, comes into the horizon and into work, and the later packet gets 4
-pub held-needed : Under (ButHeld (ours (lent 2))) (ours (lent 2)) → ⊥
+pub held-needed : Steady (ButHeld (ours (lent 2))) (ours (lent 2)) → ⊥
 unfolding computed
 held-needed =
     refuted (ours (lent 2)) (ButHeld (ours (lent 2))) two (enters 4 ∷ stands 4 ∷ []) 2 4
@@ -130,7 +114,7 @@ held-needed =
 
 -- "the earlier packet wasn't told there was no room": another key has the table's only record, so the packet gets 2 and is told; then 4
 -- enters from the horizon, and the later packet gets 4
-pub room-needed : Under (ButRoomy (ours (lent 1))) (ours (lent 1)) → ⊥
+pub room-needed : Steady (ButRoomy (ours (lent 1))) (ours (lent 1)) → ⊥
 unfolding computed
 room-needed =
     refuted (ours (lent 1)) (ButRoomy (ours (lent 1))) (packetOf 7 ∷ twoAndStandby) (enters 4 ∷ []) 2 4

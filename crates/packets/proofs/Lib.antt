@@ -1,1 +1,2 @@
 pub mod OfPackets
+pub mod Unique

@@ -1,10 +1,14 @@
--- `figures::counts::by_hrw` meets its contract.
 use Prim.Native.Nat.{_≤_, _-_}
 use lib.ListN.{length}
 use mathlib.Core.Path.{_≡_}
 use borrow.Author.Needs.{needs}
 use Rattle.figures.proofs.counts.by_hrw.Statement.{statement}
 use Rattle.figures.proofs.counts.by_hrw.Tie as tie
+use Rattle.figures.proofs.counts.by_hrw.Reads as reads
+use Rattle.figures.proofs.counts.by_hrw.Lts as lts
+use Rattle.figures.proofs.counts.tally.Reads as tally-reads
+use Rattle.hash.proofs.digest.Reads as digest-reads
+use Rattle.hrw.proofs.pick.Reads as pick-reads
 
 abbrev Inv-loop : tie.InvT-loop
 Inv-loop counts₀ points servers states i₀ counts i = (i ≤ length points) × (length counts ≡ length counts₀)
@@ -15,11 +19,14 @@ abbrev μ-loop : tie.MeasureT-loop
 loop-holds : tie.Need-loop-holds Inv-loop μ-loop
 loop-holds c = search needs
 
-mul-pick : tie.Need-mul-pick Inv-loop μ-loop
-mul-pick c = search needs
+mul-digest : tie.Need-mul-digest Inv-loop μ-loop
+mul-digest c = search needs
 
-shared-slice-read-pick : tie.Need-shared-slice-read-pick Inv-loop μ-loop
-shared-slice-read-pick c = search needs
+shared-slice-read-digest : tie.Need-shared-slice-read-digest Inv-loop μ-loop
+shared-slice-read-digest c = search needs
+
+digest-requires : tie.Need-digest-requires Inv-loop μ-loop
+digest-requires c κs = search needs
 
 pick-requires : tie.Need-pick-requires Inv-loop μ-loop
 pick-requires c κs = search needs
@@ -49,8 +56,9 @@ by-hrw-spec =
     Inv-loop
     μ-loop
     loop-holds
-    mul-pick
-    shared-slice-read-pick
+    mul-digest
+    shared-slice-read-digest
+    digest-requires
     pick-requires
     tally-requires
     add-i
