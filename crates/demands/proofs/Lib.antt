@@ -12,3 +12,6 @@ pub mod Impostors
 pub mod Pretenders
 pub mod Roomless
 pub mod EveryEngine
+pub mod Demand1Lent
+pub mod Demand1Record
+pub mod Demand1Packet
