@@ -85,6 +85,12 @@ module _ (key : List ℕ) (w : World) (so : sound (w .state .roster) ≡ true) w
       (λ u. rw u (yes (outranked-by R c (horizon r) u)))
       (λ u. rw u (no (λ (h, i, o). clash o (outranked-none R c h (horizon r) u i)))))
 
+  not2 : r .settings .method ≢ 2 → eqb (r .settings .method) 2 ≡ false
+  not2 = ne-eqb (r .settings .method) 2
+
+  not3 : r .settings .method ≢ 3 → eqb (r .settings .method) 3 ≡ false
+  not3 = ne-eqb (r .settings .method) 3
+
   -- which server, and whether its flag says that the choice is unsafe
   record Gives (p : Pick) : Type 1 where
     pub Unsafe : Type 0
@@ -93,19 +99,19 @@ module _ (key : List ℕ) (w : World) (so : sound (w .state .roster) ≡ true) w
 
   gives-1 : some (workingSet r) ≡ true → r .settings .method ≡ 1 → Gives pick
   unfolding pickBy
-  gives-1 e m = rw m (record { Unsafe = SomeOutranks R r; given = chosen m; flagged = outranks-told e })
+  gives-1 e m = rw (not3 (omega arith), not2 (omega arith)) (record { Unsafe = SomeOutranks R r; given = chosen m; flagged = outranks-told e })
 
   gives-2 : r .settings .method ≡ 2 → Gives pick
   unfolding pickBy
   gives-2 m =
       let e = entryRead (r .held) (F key) (w .ring) in
-      rw m (record { Unsafe = e .track ≢ 0; given = fromRing m e refl; flagged = tells-not (tells-eqb (e .track) 0) })
+      rw (not3 (omega arith), eq-eqb (r .settings .method) 2 m) (record { Unsafe = e .track ≢ 0; given = fromRing m e refl; flagged = tells-not (tells-eqb (e .track) 0) })
 
   gives-3 : r .settings .method ≡ 3 → 1 ≤ r .settings .rows → Gives pick
   unfolding pickBy rowRead
   gives-3 m l =
       let row = F key % (r .settings .rows) in
-      rw (m, ne-eqb (r .settings .rows) 0 (omega arith))
+      rw (eq-eqb (r .settings .method) 3 m, ne-eqb (r .settings .rows) 0 (omega arith))
       (record {
         Unsafe = getD (w .state .flags) row 0 ≢ 0;
         given = fromRow m row refl;
@@ -146,17 +152,17 @@ module _ (key : List ℕ) (w : World) (so : sound (w .state .roster) ≡ true) w
       let (s, i) = some-member (workingSet r) e in
       valid-cases (r .settings) (sound-parts r so .settings-valid)
       (λ m _.
-      rw (m, choice-member R (hrw-strict (F key % 2 ^ 31)) s (workingSet r) i)
+      rw (not3 (omega arith), not2 (omega arith), choice-member R (hrw-strict (F key % 2 ^ 31)) s (workingSet r) i)
       (no (read-fine f (λ q. absurd (omega arith)) (λ q. absurd (omega arith)))))
       (λ m _.
       both (member (entryRead (r .held) (F key) (w .ring) .server) (workingSet r))
-      (λ y. rw (m, y) (no (read-fine f (λ _. y) (λ q. absurd (omega arith)))))
-      (λ n. rw (m, n) (yes (byEntry (missing-at key t f) m n))))
+      (λ y. rw (not3 (omega arith), eq-eqb (r .settings .method) 2 m, y) (no (read-fine f (λ _. y) (λ q. absurd (omega arith)))))
+      (λ n. rw (not3 (omega arith), eq-eqb (r .settings .method) 2 m, n) (yes (byEntry (missing-at key t f) m n))))
       (λ m l _.
       let some-rows : eqb (r .settings .rows) 0 ≡ false = ne-eqb (r .settings .rows) 0 (omega arith) in
       both (member (getD (w .state .rows) (F key % (r .settings .rows)) 0) (workingSet r))
-      (λ y. rw (m, some-rows, y) (no (read-fine f (λ q. absurd (omega arith)) (λ _. y))))
-      (λ n. rw (m, some-rows, n) (yes (byRow (missing-at key t f) m n))))
+      (λ y. rw (eq-eqb (r .settings .method) 3 m, some-rows, y) (no (read-fine f (λ q. absurd (omega arith)) (λ _. y))))
+      (λ n. rw (eq-eqb (r .settings .method) 3 m, some-rows, n) (yes (byRow (missing-at key t f) m n))))
 
   pub astray-told : some (workingSet r) ≡ true → Tells (LedAstray key w) (not (eqb (stateOf (target (find key t) pick (w .state)) r) 1))
   astray-told e =
@@ -188,10 +194,10 @@ module _ (bytes : List ℕ) (w : World) where
       both (ltb (find key table .reads) (room table))
       (λ h.
       rw (f, u, h, all)
-      (marked _ _ _ (recorded k n _ (g .Unsafe) (g .given) (told (rw u at (g .flagged))) (omega (arith, ltb-true _ _ h)))))
+      (marked _ _ _ (recorded k n _ (g .Unsafe) (g .given) (told (rw u at (g .flagged))) (omega (arith, ltb-true (find key table .reads) (room table) h)))))
       (λ h.
       rw (f, u, h, all)
-      (marked _ _ _ (noRoom k n _ (g .Unsafe) (g .given) (told (rw u at (g .flagged))) (omega (arith, ltb-false _ _ h, used-within table))))))
+      (marked _ _ _ (noRoom k n _ (g .Unsafe) (g .given) (told (rw u at (g .flagged))) (omega (arith, ltb-false (find key table .reads) (room table) h, used-within table))))))
       (λ u. rw (f, u, all) (marked _ _ _ (safe k n _ (g .Unsafe) (g .given) (denied (rw u at (g .flagged)))))))
 
   pub end-marked : kindIn bytes ≡ 2 → Marked bytes w (end (find key table) (w .state) .answer)

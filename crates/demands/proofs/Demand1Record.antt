@@ -45,8 +45,13 @@ pub data Reads (l : List ℕ) : Request → Type 0 where
   asks : (e : Request) → (Malformed l → ⊥) → (Serverless l → ⊥) → Agrees l e → Reads l e
 
 -- a kind that is none of the seven
+above : {k : ℕ} (n : ℕ) → n ≤ k → k ≢ n → n < k
+above n l m = omega arith
+
 beyond : (k : ℕ) → k ≢ 1 → k ≢ 2 → k ≢ 3 → k ≢ 4 → k ≢ 5 → k ≢ 6 → k ≢ 7 → (k ≡ 0) ⊎ (7 < k)
-beyond k a b c d e f g = both (eqb k 0) (λ z. inl (eqb-true k 0 z)) (λ z. inr (omega (arith, eqb-false k 0 z)))
+beyond k a b c d e f g =
+    both (eqb k 0) (λ z. inl (eqb-true k 0 z)) (λ z.
+    inr (above 7 (above 6 (above 5 (above 4 (above 3 (above 2 (above 1 (above 0 (omega (arith)) (eqb-false k 0 z)) a) b) c) d) e) f) g))
 
 module _ (l : List ℕ) (long : length l ≡ 16) where
   filled-wrong : allZero (take 2 (drop 1 l)) ≡ false → Malformed l
@@ -133,7 +138,7 @@ module _ (l : List ℕ) (long : length l ≡ 16) where
           settingsZeros = λ _. rw (drop-drop 3 3 l) at z;
           settingsRight = λ _. rw (getD-drop 3 l 0 0, getD-drop 3 l 1 0, getD-drop 3 l 2 0) at (good-settings (named (drop 3 l)) v);
         }))
-        (λ s. omega (arith, s .1 .0))
+        (λ s. omega (arith, s .1))
         (record {
           kind = sym q;
           some = omega arith;

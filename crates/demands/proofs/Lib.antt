@@ -15,3 +15,4 @@ pub mod EveryEngine
 pub mod Demand1Lent
 pub mod Demand1Record
 pub mod Demand1Packet
+pub mod Demand1Verdict
