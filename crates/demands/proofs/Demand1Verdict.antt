@@ -55,10 +55,13 @@ module _ {M : Answer → Type 1} where
   past {l} n (refused k ls f) = refused k (l ∷ ls) (inr (n, f))
   past {l} n (accepted ls a o m) = accepted (l ∷ ls) a (n, o) m
 
+  pub here : {l : Line} {ls : List Line} → l .when → Verdict M (l ∷ ls) (refuses (l .number))
+  here {l} {ls} p = refused (l .number) (l ∷ ls) (inl (p, refl))
+
   -- a line whose test is made next
   pub step : {l : Line} {ls : List Line} {a : Answer} {b : Bool} → Tells (l .when) b → (b ≡ true → a ≡ refuses (l .number))
       → (b ≡ false → (l .when → ⊥) → Verdict M ls a) → Verdict M (l ∷ ls) a
-  step {l} {ls} (yes p) r v = rw (r refl) (refused (l .number) (l ∷ ls) (inl (p, refl)))
+  step {l} {ls} (yes p) r v = rw (r refl) (here p)
   step (no n) r v = past n (v refl n)
 
   module _ (says : (a : Answer) → M a → a .accepted ≡ true) where

@@ -16,3 +16,4 @@ pub mod Demand1Lent
 pub mod Demand1Record
 pub mod Demand1Packet
 pub mod Demand1Verdict
+pub mod Demand1

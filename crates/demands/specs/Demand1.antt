@@ -166,7 +166,6 @@ pub data MarkRight (bytes : List ℕ) (w : World) : ℕ → ℕ → ℕ → Type
 
 -- "A refusal returns its number, server 0, mark 0, reads 0, and every buffer and the roster stay the same."
 pub record RefusedRight (n : ℕ) (before after : World) (reply : Reply) : Type 0 where
-  pub number : member n (9 ∷ 11 ∷ 1 ∷ 2 ∷ 10 ∷ 3 ∷ 6 ∷ 4 ∷ 5 ∷ 7 ∷ 8 ∷ []) ≡ true
   pub told : answerOf reply ≡ record { accepted = false; refusal = n; server = 0; mark = 0; reads = 0 }
   pub unchanged : after ≡ before
 
@@ -174,6 +173,8 @@ pub record Demand1 (bytes : List ℕ) (before after : World) (reply : Reply) : T
   -- refused by n exactly when n's line is the first that applies; accepted exactly when none applies
   pub refused : (n : ℕ) → (reply ≡ Refused n) ↔ FirstIs n (refusals bytes before)
   pub accepted : ((s : ℕ) × (mark : ℕ) × (reads : ℕ) × (reply ≡ Accepted s mark reads)) ↔ NoneOf (refusals bytes before)
+  -- no other number is ever given
+  pub numbers : (n : ℕ) → reply ≡ Refused n → member n (9 ∷ 11 ∷ 1 ∷ 2 ∷ 10 ∷ 3 ∷ 6 ∷ 4 ∷ 5 ∷ 7 ∷ 8 ∷ []) ≡ true
   pub refusal : (n : ℕ) → reply ≡ Refused n → RefusedRight n before after reply
   pub marks : (s mark reads : ℕ) → reply ≡ Accepted s mark reads → MarkRight bytes before s mark reads
   pub told : (s mark reads : ℕ) → reply ≡ Accepted s mark reads
