@@ -1,6 +1,6 @@
 -- Demand 1, proved of what `event` and `start` promise, for every input: the refusal table line by line, the marks, and that a refusal changes nothing.
 use Prim.Native.Nat.{ℕ, _≤_}
-use mathlib.Core.Bool.{Bool, true, false, not}
+use mathlib.Core.Bool.{true, false, not}
 use mathlib.Core.List.{List, [], _∷_}
 use mathlib.Core.Logic.{_⊎_, ⊎-elim}
 use mathlib.Core.Path.{_≡_, refl, sym, ap, _∙_}
@@ -16,21 +16,22 @@ use Rattle.roster.specs.declared.Roster.{Roster}
 use Rattle.roster.specs.Roster.{sound, stateOf, workingSet, horizon}
 use Rattle.roster.proofs.Sets.{working-state, horizon-state}
 use Rattle.roster.proofs.Known.{known-sets}
-use Rattle.event.specs.Event.{Request, eventIn}
+use Rattle.event.specs.Event.{Request}
 use Rattle.table.specs.Table.{Finding, find, used}
 use Rattle.ring.specs.Ring.{entryRead}
 use Rattle.ringplan.specs.Plan.{some}
 use Rattle.rules.specs.declared.Reply.{Reply}
 use Rattle.rules.specs.declared.Reply.the-variants.{Accepted, Refused}
 use Rattle.rules.specs.Answer.{Answer, accepts, answerOf}
-use Rattle.rules.specs.Rules.{State, World, Done, is, barred, effect, judged, pickBy, sizedFor, lentBar, admitted, eventOf, startOf, EventPromise, StartPromise}
+use Rattle.rules.specs.Rules.{World, Done, is, barred, effect, judged, pickBy, sizedFor, lentBar, admitted, eventOf, startOf, EventPromise, StartPromise}
 use Rattle.rules.proofs.Refusals.{refused-changes-nothing, refused-start-changes-nothing}
-use Rattle.histories.proofs.Barring.{line10, line3, line6, line4, line5, line7, line8}
-use Rattle.demands.specs.Demand1.{kindIn, keyIn, serverIn, LedAstray, refusals, lengthLine, MarkRight, other, RefusedRight, Demand1, Demand1Start}
+use Rattle.histories.proofs.Barring.{line3, line4, line5, line8}
+use Rattle.demands.specs.Causes.{kindIn, keyIn, serverIn, LedAstray}
+use Rattle.demands.specs.Demand1.{refusals, lengthLine, MarkRight, other, Demand1, Demand1Start}
 use Rattle.demands.proofs.Demand1Lent.{Tells, yes, no, tells-and, tells-or, tells-nand, tells-false, tells-eqb, tells-leb, lengths-told, sound-told}
 use Rattle.demands.proofs.Demand1Record.{Agrees, Reads, malformed, serverless, asks, reads}
 use Rattle.demands.proofs.Demand1Packet.{astray-told, Marked, marked, packet-marked, end-marked}
-use Rattle.demands.proofs.Demand1Verdict.{Verdict, accepted, here, past, step, first-listed, accepted-right, refused-exactly, accepted-exactly}
+use Rattle.demands.proofs.Demand1Verdict.{Verdict, answered, accepted, here, past, step, first-listed, accepted-right, refused-exactly, accepted-exactly}
 
 none-told : (l : List ℕ) → Tells (l ≡ []) (not (some l))
 none-told [] = yes refl
@@ -159,12 +160,22 @@ module _ (bytes : List ℕ) (w : World) where
 marked-says : {bytes : List ℕ} {w : World} (a : Answer) → Marked bytes w a → a .accepted ≡ true
 marked-says a (marked s mark reads m) = refl
 
+marked-reply : {bytes : List ℕ} {w : World} (a : Answer) → Marked bytes w a → (reply : Reply) × (answerOf reply ≡ a)
+marked-reply a (marked s mark number m) = (Accepted s mark number, refl)
+
 mark-of : {bytes : List ℕ} {w : World} {a : Answer} (s mark reads : ℕ) → Marked bytes w a → a ≡ accepts s mark reads → MarkRight bytes w s mark reads
 mark-of s mark reads (marked s′ mark′ reads′ m) e =
     let p : s′ ≡ s = ap (λ (a : Answer). a .server) e in
     let q : mark′ ≡ mark = ap (λ (a : Answer). a .mark) e in
     let o : reads′ ≡ reads = ap (λ (a : Answer). a .reads) e in
     rw (p, q, o) at m
+
+-- "Every event record and every lent buffer is met with a defined reply."
+pub demand1-met : (bytes : List ℕ) (before : World) → (after : World) × (reply : Reply) × EventPromise bytes before after reply
+demand1-met bytes before =
+    let w = eventOf bytes before .world in
+    let (reply, q) = answered marked-reply (event-right bytes before) in
+    (w, reply, ap (λ (a : Answer). record { answer = a; world = w }) q)
 
 pub demand1 : (bytes : List ℕ) (before after : World) (reply : Reply) → EventPromise bytes before after reply → Demand1 bytes before after reply
 demand1 bytes before after reply p =
@@ -175,14 +186,14 @@ demand1 bytes before after reply p =
       accepted = accepted-exactly marked-says (refusals bytes before) reply v;
       numbers = λ n q. first-listed (refusals bytes before) n (refused-exactly marked-says (refusals bytes before) reply v n .0 q);
       refusal = λ n q.
-      record {
-        told = ap answerOf q;
-        unchanged =
-            ap (λ (d : Done). d .world) p
-            ∙ refused-changes-nothing bytes before (sym (ap (λ (x : Answer). x .accepted) a) ∙ ap (λ (x : Reply). answerOf x .accepted) q) .world;
-      };
+          record {
+            told = ap answerOf q;
+            unchanged =
+                ap (λ (d : Done). d .world) p
+                ∙ refused-changes-nothing bytes before (sym (ap (λ (x : Answer). x .accepted) a) ∙ ap (λ (x : Reply). answerOf x .accepted) q) .world;
+          };
       marks = λ s mark reads q.
-      mark-of s mark reads (accepted-right marked-says v (ap (λ (x : Reply). answerOf x .accepted) q)) (ap answerOf q);
+          mark-of s mark reads (accepted-right marked-says v (ap (λ (x : Reply). answerOf x .accepted) q)) (ap answerOf q);
       told = λ s mark reads q. ap answerOf q;
     }
 
@@ -192,6 +203,9 @@ data Zeros (a : Answer) : Type 1 where
 
 zeros-says : (a : Answer) → Zeros a → a .accepted ≡ true
 zeros-says a (zeros e) = ap (λ (x : Answer). x .accepted) e
+
+zeros-reply : (a : Answer) → Zeros a → (reply : Reply) × (answerOf reply ≡ a)
+zeros-reply a (zeros e) = (Accepted 0 0 0, sym e)
 
 start-right : (w : World) → Verdict Zeros (lengthLine w ∷ []) (startOf w .answer)
 unfolding startOf
@@ -207,6 +221,12 @@ reply-zeros (Accepted s mark number) (zeros e) =
     rw (p, q, o)
 reply-zeros (Refused n) (zeros e) = clash {b = true} refl (sym (ap (λ (x : Answer). x .accepted) e))
 
+pub demand1-start-met : (before : World) → (after : World) × (reply : Reply) × StartPromise before after reply
+demand1-start-met before =
+    let w = startOf before .world in
+    let (reply, q) = answered zeros-reply (start-right before) in
+    (w, reply, ap (λ (a : Answer). record { answer = a; world = w }) q)
+
 pub demand1-start : (before after : World) (reply : Reply) → StartPromise before after reply → Demand1Start before after reply
 demand1-start before after reply p =
     let a : answerOf reply ≡ startOf before .answer = ap (λ (d : Done). d .answer) p in
@@ -216,14 +236,14 @@ demand1-start before after reply p =
       accepted = (
         λ q. accepted-exactly zeros-says (lengthLine before ∷ []) reply v .0 (0, 0, 0, q),
         λ o.
-        let (s, mark, reads, q) = accepted-exactly zeros-says (lengthLine before ∷ []) reply v .1 o in
-        reply-zeros reply (accepted-right zeros-says v (ap (λ (x : Reply). answerOf x .accepted) q)),
+            let (s, mark, reads, q) = accepted-exactly zeros-says (lengthLine before ∷ []) reply v .1 o in
+            reply-zeros reply (accepted-right zeros-says v (ap (λ (x : Reply). answerOf x .accepted) q)),
       );
       refusal = λ n q.
-      record {
-        told = ap answerOf q;
-        unchanged =
-            ap (λ (d : Done). d .world) p
-            ∙ refused-start-changes-nothing before (sym (ap (λ (x : Answer). x .accepted) a) ∙ ap (λ (x : Reply). answerOf x .accepted) q) .1 .world;
-      };
+          record {
+            told = ap answerOf q;
+            unchanged =
+                ap (λ (d : Done). d .world) p
+                ∙ refused-start-changes-nothing before (sym (ap (λ (x : Answer). x .accepted) a) ∙ ap (λ (x : Reply). answerOf x .accepted) q) .1 .world;
+          };
     }

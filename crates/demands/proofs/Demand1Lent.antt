@@ -1,7 +1,7 @@
 -- Demand 1, refusals 9 and 11: the rules' tests of what is lent, cause by cause; and the tests as such.
 use Prim.Native.Nat.{ℕ, _+_, _-_, _%_, _<_, _≤_}
 use mathlib.Core.Bool.{Bool, true, false, not, _&&_, _||_}
-use mathlib.Core.List.{List, [], _∷_, _++_}
+use mathlib.Core.List.{List, _∷_}
 use mathlib.Core.Logic.{_≢_, _⊎_, inl, inr, ⊎-elim}
 use mathlib.Core.Path.{_≡_, refl, sym, _∙_}
 use native.Mathlib.Omega.{arith}
@@ -9,7 +9,6 @@ use lib.Dec.{eqb, leb}
 use lib.ListN.{length, getD, drop, length-drop}
 use lib.Seq.{getD-drop}
 use borrow.Author.Tests.{eqb-true, eqb-false, leb-true, leb-false}
-use Rattle.sets.specs.Sets.{member}
 use Rattle.sets.proofs.Cases.{both, clash}
 use Rattle.sets.proofs.Members.{member-head}
 use Rattle.spans.specs.Spans.{allZero}
@@ -24,7 +23,7 @@ use Rattle.roster.specs.declared.Roster.{Roster}
 use Rattle.roster.specs.Roster.{sound, heldServers, heldStates}
 use Rattle.roster.proofs.Form.{SoundParts, sound-parts}
 use Rattle.rules.specs.Rules.{World, sizesRight, sizedFor}
-use Rattle.demands.specs.Demand1.{BadSettings, unknownMethod, noRows, tooManyRows, needlessRows, WrongLength, tableNone, tableLong, tableOdd, rowsNot, flagsNot, ringNot, Unsound, tooMany, outOfOrder, serverZero, twice, inNeither, serverUnused, stateUnused, badSettings}
+use Rattle.demands.specs.Causes.{BadSettings, unknownMethod, noRows, tooManyRows, needlessRows, WrongLength, tableNone, tableLong, tableOdd, rowsNot, flagsNot, ringNot, Unsound, tooMany, outOfOrder, serverZero, twice, inNeither, serverUnused, stateUnused, badSettings}
 
 -- ---- a test tells whether something holds
 pub data Tells (P : Type 0) : Bool → Type 0 where

@@ -1,13 +1,13 @@
 -- Demand 1 at packets and ends: the key's record, what the method gives, refusal 8 and the marks.
-use Prim.Native.Nat.{ℕ, _-_, _%_, _^_, _<_, _≤_}
-use mathlib.Core.Bool.{Bool, true, false, not}
-use mathlib.Core.List.{List, [], _∷_}
+use Prim.Native.Nat.{ℕ, _-_, _%_, _^_, _≤_}
+use mathlib.Core.Bool.{true, false, not}
+use mathlib.Core.List.{List, []}
 use mathlib.Core.Logic.{_≢_}
-use mathlib.Core.Path.{_≡_, refl, sym, _∙_}
+use mathlib.Core.Path.{_≡_, refl}
 use native.Mathlib.Omega.{arith}
 use lib.Dec.{eqb, ltb}
 use lib.ListN.{getD}
-use borrow.Author.Tests.{eq-eqb, ne-eqb, eqb-true, eqb-false, ltb-true, ltb-false}
+use borrow.Author.Tests.{eq-eqb, ne-eqb, ltb-true, ltb-false}
 use Rattle.sets.specs.Sets.{member}
 use Rattle.sets.proofs.Cases.{both, clash}
 use Rattle.spans.specs.Spans.{same}
@@ -24,16 +24,16 @@ use Rattle.roster.specs.declared.Roster.{Roster}
 use Rattle.roster.specs.Roster.{sound, stateOf, workingSet, horizon}
 use Rattle.roster.proofs.Form.{sound-parts}
 use Rattle.roster.proofs.Sets.{working-state}
-use Rattle.table.specs.Table.{Finding, keyOf, usedPart, used, room, find, serverAt}
+use Rattle.table.specs.Table.{keyOf, usedPart, used, room, find, serverAt}
 use Rattle.table.proofs.Records.{used-within}
 use Rattle.table.proofs.Finds.{found-from, found-first, missing-none, missing-reads}
 use Rattle.rows.specs.Rows.{rowRead}
-use Rattle.ring.specs.declared.Entry.{Entry}
 use Rattle.ring.specs.Ring.{entryRead}
 use Rattle.ringplan.specs.Plan.{some}
 use Rattle.rules.specs.Answer.{Answer, accepts}
-use Rattle.rules.specs.Rules.{World, State, target, pickBy, packet, end}
-use Rattle.demands.specs.Demand1.{kindIn, keyIn, HasKey, RecordAt, NoRecord, SomeOutranks, Given, chosen, fromRing, fromRow, LedAstray, byRecord, byRow, byEntry, MarkRight, known, safe, recorded, noRoom, ended, nothing}
+use Rattle.rules.specs.Rules.{World, target, pickBy, packet, end}
+use Rattle.demands.specs.Causes.{kindIn, keyIn, HasKey, RecordAt, NoRecord, SomeOutranks, Given, chosen, fromRing, fromRow, LedAstray, byRecord, byRow, byEntry}
+use Rattle.demands.specs.Demand1.{MarkRight, known, safe, recorded, noRoom, ended, nothing}
 use Rattle.demands.proofs.Packets.{some-member}
 use Rattle.demands.proofs.Demand1Lent.{Tells, yes, no, tells-not, tells-eqb, told, denied}
 

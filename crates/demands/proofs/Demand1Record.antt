@@ -1,7 +1,7 @@
 -- Demand 1, refusals 1 and 2: what an event record reads as, against the causes that the document lists.
 use Prim.Native.Nat.{ℕ, _+_, _-_, _<_, _≤_}
-use mathlib.Core.Bool.{Bool, true, false}
-use mathlib.Core.List.{List, [], _∷_}
+use mathlib.Core.Bool.{true, false}
+use mathlib.Core.List.{List}
 use mathlib.Core.Logic.{_≢_, _⊎_, inl, inr, ⊎-elim}
 use mathlib.Core.Path.{_≡_, refl, sym, _∙_}
 use native.Mathlib.Omega.{arith}
@@ -9,14 +9,13 @@ use lib.Dec.{eqb}
 use lib.ListN.{length, getD, take, drop, length-drop}
 use lib.Seq.{getD-drop, getD-take, drop-drop, length-take-le}
 use borrow.Author.Tests.{eqb-true, eqb-false}
-use Rattle.sets.proofs.Cases.{both, clash}
+use Rattle.sets.proofs.Cases.{both}
 use Rattle.bigendian.specs.BigEndian.{number2At, number4At}
 use Rattle.spans.specs.Spans.{allZero}
 use Rattle.spans.proofs.Zeros.{zero-at, nonzero-at}
-use Rattle.settings.specs.declared.Settings.{Settings}
 use Rattle.settings.specs.Settings.{valid, named, wellFormed}
 use Rattle.event.specs.Event.{Request, refusedBy, asksServer, asksSettings, byKind, eventIn}
-use Rattle.demands.specs.Demand1.{kindIn, keyIn, serverIn, BadSettings, Malformed, notSixteen, unknownKind, filler, serverFiller, settingsFiller, badAsked}
+use Rattle.demands.specs.Causes.{kindIn, keyIn, serverIn, BadSettings, Malformed, notSixteen, unknownKind, filler, serverFiller, settingsFiller, badAsked}
 use Rattle.demands.proofs.Demand1Lent.{zero-from, nonzero-from, bad-settings, good-settings}
 
 -- what a record has that isn't malformed

@@ -3,16 +3,15 @@
 use Prim.Native.Nat.{ℕ}
 use mathlib.Core.Bool.{Bool, true, false}
 use mathlib.Core.List.{List, [], _∷_, map}
-use mathlib.Core.Logic.{_↔_, _⊎_, inl, inr}
+use mathlib.Core.Logic.{_↔_, inl, inr}
 use mathlib.Core.Path.{_≡_, refl, sym, ap, _∙_}
-use lib.Dec.{eqb}
 use borrow.Author.Tests.{eq-eqb}
 use Rattle.sets.specs.Sets.{member}
 use Rattle.sets.proofs.Cases.{clash}
 use Rattle.sets.proofs.Members.{member-tail}
 use Rattle.rules.specs.declared.Reply.{Reply}
 use Rattle.rules.specs.declared.Reply.the-variants.{Accepted, Refused}
-use Rattle.rules.specs.Answer.{Answer, accepts, refuses, answerOf}
+use Rattle.rules.specs.Answer.{Answer, refuses, answerOf}
 use Rattle.demands.specs.Demand1.{Line, FirstIs, NoneOf}
 use Rattle.demands.proofs.Demand1Lent.{Tells, yes, no}
 
@@ -94,3 +93,9 @@ module _ {M : Answer → Type 1} where
         λ (s, mark, reads, q). accepted-none v (ap (λ (x : Reply). answerOf x .accepted) q),
         λ o. reply-accepted reply (none-accepted v o),
       )
+
+  -- some reply has the answer
+  pub answered : ((a : Answer) → M a → (reply : Reply) × (answerOf reply ≡ a))
+      → {ls : List Line} {a : Answer} → Verdict M ls a → (reply : Reply) × (answerOf reply ≡ a)
+  answered f (refused n ls g) = (Refused n, refl)
+  answered f (accepted ls a o m) = f a m
