@@ -163,7 +163,7 @@ marked-says a (marked s mark reads m) = refl
 marked-reply : {bytes : List ℕ} {w : World} (a : Answer) → Marked bytes w a → (reply : Reply) × (answerOf reply ≡ a)
 marked-reply a (marked s mark number m) = (Accepted s mark number, refl)
 
-mark-of : {bytes : List ℕ} {w : World} {a : Answer} (s mark reads : ℕ) → Marked bytes w a → a ≡ accepts s mark reads → MarkRight bytes w s mark reads
+mark-of : {bytes : List ℕ} {w : World} {a : Answer} (s mark reads : ℕ) → Marked bytes w a → a ≡ accepts s mark reads → MarkRight (kindIn bytes) (keyIn bytes) w s mark reads
 mark-of s mark reads (marked s′ mark′ reads′ m) e =
     let p : s′ ≡ s = ap (λ (a : Answer). a .server) e in
     let q : mark′ ≡ mark = ap (λ (a : Answer). a .mark) e in

@@ -171,7 +171,7 @@ module _ (key : List ℕ) (w : World) (so : sound (w .state .roster) ≡ true) w
 
 -- ---- the marks
 pub data Marked (bytes : List ℕ) (w : World) : Answer → Type 1 where
-  marked : (s mark reads : ℕ) → MarkRight bytes w s mark reads → Marked bytes w (accepts s mark reads)
+  marked : (s mark reads : ℕ) → MarkRight (kindIn bytes) (keyIn bytes) w s mark reads → Marked bytes w (accepts s mark reads)
 
 module _ (bytes : List ℕ) (w : World) where
   abbrev key : List ℕ

@@ -64,18 +64,17 @@ NoneOf (l ∷ ls) = (l .when → ⊥) × NoneOf ls
 -- "1 from the record, 2 chosen and safe, 3 chosen and recorded, 4 chosen, unsafe and no room; 5 record removed, 6 nothing to remove", with the
 -- server and the reads: "the place of the record counted from 1, or all records used before the event when the key has none". "Other accepted
 -- events carry server, mark and reads 0; so do ends for the server."
-pub data MarkRight (bytes : List ℕ) (w : World) : ℕ → ℕ → ℕ → Type 1 where
-  known : kindIn bytes ≡ 1 → (place : ℕ) → RecordAt (keyIn bytes) (w .state .table) place
-      → MarkRight bytes w (serverAt place (w .state .table)) 1 place
-  safe : kindIn bytes ≡ 1 → NoRecord (keyIn bytes) (w .state .table) → (s : ℕ) (Unsafe : Type 0) → Given (keyIn bytes) w s Unsafe
-      → (Unsafe → ⊥) → MarkRight bytes w s 2 (used (w .state .table))
-  recorded : kindIn bytes ≡ 1 → NoRecord (keyIn bytes) (w .state .table) → (s : ℕ) (Unsafe : Type 0) → Given (keyIn bytes) w s Unsafe
-      → Unsafe → used (w .state .table) < room (w .state .table) → MarkRight bytes w s 3 (used (w .state .table))
-  noRoom : kindIn bytes ≡ 1 → NoRecord (keyIn bytes) (w .state .table) → (s : ℕ) (Unsafe : Type 0) → Given (keyIn bytes) w s Unsafe
-      → Unsafe → used (w .state .table) ≡ room (w .state .table) → MarkRight bytes w s 4 (used (w .state .table))
-  ended : kindIn bytes ≡ 2 → (place : ℕ) → RecordAt (keyIn bytes) (w .state .table) place → MarkRight bytes w 0 5 place
-  nothing : kindIn bytes ≡ 2 → NoRecord (keyIn bytes) (w .state .table) → MarkRight bytes w 0 6 (used (w .state .table))
-  other : 3 ≤ kindIn bytes → kindIn bytes ≤ 7 → MarkRight bytes w 0 0 0
+pub data MarkRight (kind : ℕ) (key : List ℕ) (w : World) : ℕ → ℕ → ℕ → Type 1 where
+  known : kind ≡ 1 → (place : ℕ) → RecordAt key (w .state .table) place → MarkRight kind key w (serverAt place (w .state .table)) 1 place
+  safe : kind ≡ 1 → NoRecord key (w .state .table) → (s : ℕ) (Unsafe : Type 0) → Given key w s Unsafe → (Unsafe → ⊥)
+      → MarkRight kind key w s 2 (used (w .state .table))
+  recorded : kind ≡ 1 → NoRecord key (w .state .table) → (s : ℕ) (Unsafe : Type 0) → Given key w s Unsafe → Unsafe
+      → used (w .state .table) < room (w .state .table) → MarkRight kind key w s 3 (used (w .state .table))
+  noRoom : kind ≡ 1 → NoRecord key (w .state .table) → (s : ℕ) (Unsafe : Type 0) → Given key w s Unsafe → Unsafe
+      → used (w .state .table) ≡ room (w .state .table) → MarkRight kind key w s 4 (used (w .state .table))
+  ended : kind ≡ 2 → (place : ℕ) → RecordAt key (w .state .table) place → MarkRight kind key w 0 5 place
+  nothing : kind ≡ 2 → NoRecord key (w .state .table) → MarkRight kind key w 0 6 (used (w .state .table))
+  other : 3 ≤ kind → kind ≤ 7 → MarkRight kind key w 0 0 0
 
 -- "A refusal returns its number, server 0, mark 0, reads 0, and every buffer and the roster stay the same."
 pub record RefusedRight (n : ℕ) (before after : World) (reply : Reply) : Type 0 where
@@ -89,7 +88,7 @@ pub record Demand1 (bytes : List ℕ) (before after : World) (reply : Reply) : T
   -- no other number is ever given
   pub numbers : (n : ℕ) → reply ≡ Refused n → member n (9 ∷ 11 ∷ 1 ∷ 2 ∷ 10 ∷ 3 ∷ 6 ∷ 4 ∷ 5 ∷ 7 ∷ 8 ∷ []) ≡ true
   pub refusal : (n : ℕ) → reply ≡ Refused n → RefusedRight n before after reply
-  pub marks : (s mark reads : ℕ) → reply ≡ Accepted s mark reads → MarkRight bytes before s mark reads
+  pub marks : (s mark reads : ℕ) → reply ≡ Accepted s mark reads → MarkRight (kindIn bytes) (keyIn bytes) before s mark reads
   pub told : (s mark reads : ℕ) → reply ≡ Accepted s mark reads
       → answerOf reply ≡ record { accepted = true; refusal = 0; server = s; mark = mark; reads = reads }
 
