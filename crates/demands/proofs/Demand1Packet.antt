@@ -1,5 +1,5 @@
 -- Demand 1 at packets and ends: the key's record, what the method gives, refusal 8 and the marks.
-use Prim.Native.Nat.{ℕ, _-_, _%_, _^_, _≤_}
+use Prim.Native.Nat.{ℕ, _-_, _%_, _^_, _<_, _≤_}
 use mathlib.Core.Bool.{true, false, not}
 use mathlib.Core.List.{List, []}
 use mathlib.Core.Logic.{_≢_}
@@ -32,8 +32,8 @@ use Rattle.ring.specs.Ring.{entryRead}
 use Rattle.ringplan.specs.Plan.{some}
 use Rattle.rules.specs.Answer.{Answer, accepts}
 use Rattle.rules.specs.Rules.{World, target, pickBy, packet, end}
-use Rattle.demands.specs.Causes.{kindIn, keyIn, HasKey, RecordAt, NoRecord, SomeOutranks, Given, chosen, fromRing, fromRow, LedAstray, byRecord, byRow, byEntry}
-use Rattle.demands.specs.Demand1.{MarkRight, known, safe, recorded, noRoom, ended, nothing}
+use Rattle.demands.specs.Causes.{kindIn, keyIn, HasKey, RecordAt, NoRecord, SomeOutranks, Given, byChoice, fromRing, fromRow, LedAstray, byRecord, byRow, byEntry}
+use Rattle.demands.specs.Demand1.{safe, recorded, noRoom, known, chosen, gone, nothing, MarkRight, packet as packet-event, end as end-event}
 use Rattle.demands.proofs.Packets.{some-member}
 use Rattle.demands.proofs.Demand1Lent.{Tells, yes, no, tells-not, tells-eqb, told, denied}
 
@@ -56,7 +56,7 @@ module _ (key t : List ℕ) where
   missing-at : find key t .found ≡ false → NoRecord key t
   missing-at f i (within, q) = other-key i (missing-none key t f i within) (within, q)
 
-  record-one : (a b : ℕ) → RecordAt key t a → RecordAt key t b → a ≡ b
+  pub record-one : (a b : ℕ) → RecordAt key t a → RecordAt key t b → a ≡ b
   record-one a b p q =
       both (ltb a b)
       (λ l. absurd (q .first (a - 1) (omega (arith, ltb-true a b l, p .counted)) (p .here)))
@@ -99,7 +99,7 @@ module _ (key : List ℕ) (w : World) (so : sound (w .state .roster) ≡ true) w
 
   gives-1 : some (workingSet r) ≡ true → r .settings .method ≡ 1 → Gives pick
   unfolding pickBy
-  gives-1 e m = rw (not3 (omega arith), not2 (omega arith)) (record { Unsafe = SomeOutranks R r; given = chosen m; flagged = outranks-told e })
+  gives-1 e m = rw (not3 (omega arith), not2 (omega arith)) (record { Unsafe = SomeOutranks R r; given = byChoice m; flagged = outranks-told e })
 
   gives-2 : r .settings .method ≡ 2 → Gives pick
   unfolding pickBy
@@ -186,23 +186,26 @@ module _ (bytes : List ℕ) (w : World) where
   packet-marked so k e =
       let g = gives key w so e in
       let p = pick key w so in
-      both (find key table .found) (λ f. rw f (marked _ _ _ (known k _ (found-at key table f)))) (λ f.
+      both (find key table .found) (λ f. rw f (marked _ _ _ (packet-event k _ _ _ (known _ (found-at key table f))))) (λ f.
       let n = missing-at key table f in
       let all : find key table .reads ≡ used table = missing-reads key table f in
       both (p .flag)
       (λ u.
+      let unsafe = told (rw u at (g .flagged)) in
       both (ltb (find key table .reads) (room table))
       (λ h.
-      rw (f, u, h, all)
-      (marked _ _ _ (recorded k n _ (g .Unsafe) (g .given) (told (rw u at (g .flagged))) (omega (arith, ltb-true (find key table .reads) (room table) h)))))
+      let fits : used table < room table = omega (arith, ltb-true (find key table .reads) (room table) h) in
+      rw (f, u, h, all) (marked _ _ _ (packet-event k _ _ _ (chosen n _ _ (g .Unsafe) (g .given) (recorded unsafe fits)))))
       (λ h.
-      rw (f, u, h, all)
-      (marked _ _ _ (noRoom k n _ (g .Unsafe) (g .given) (told (rw u at (g .flagged))) (omega (arith, ltb-false (find key table .reads) (room table) h, used-within table))))))
-      (λ u. rw (f, u, all) (marked _ _ _ (safe k n _ (g .Unsafe) (g .given) (denied (rw u at (g .flagged)))))))
+      let full : used table ≡ room table = omega (arith, ltb-false (find key table .reads) (room table) h, used-within table) in
+      rw (f, u, h, all) (marked _ _ _ (packet-event k _ _ _ (chosen n _ _ (g .Unsafe) (g .given) (noRoom unsafe full))))))
+      (λ u.
+      rw (f, u, all)
+      (marked _ _ _ (packet-event k _ _ _ (chosen n _ _ (g .Unsafe) (g .given) (safe (denied (rw u at (g .flagged)))))))))
 
   pub end-marked : kindIn bytes ≡ 2 → Marked bytes w (end (find key table) (w .state) .answer)
   unfolding end
   end-marked k =
       both (find key table .found)
-      (λ f. rw f (marked _ _ _ (ended k _ (found-at key table f))))
-      (λ f. rw (f, missing-reads key table f) (marked _ _ _ (nothing k (missing-at key table f))))
+      (λ f. rw f (marked _ _ _ (end-event k _ _ (gone _ (found-at key table f)))))
+      (λ f. rw (f, missing-reads key table f) (marked _ _ _ (end-event k _ _ (nothing (missing-at key table f)))))

@@ -17,3 +17,4 @@ pub mod Demand1Record
 pub mod Demand1Packet
 pub mod Demand1Verdict
 pub mod Demand1
+pub mod Demand1One

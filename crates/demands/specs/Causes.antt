@@ -82,7 +82,7 @@ abbrev pub SomeOutranks : Ranking → Roster → Type 0
 SomeOutranks R r = (h : ℕ) × (member h (horizon r) ≡ true) × (R h (choice R (workingSet r)) ≡ true)
 
 pub data Given (key : List ℕ) (w : World) : ℕ → Type 0 → Type 1 where
-  chosen : w .state .roster .settings .method ≡ 1
+  byChoice : w .state .roster .settings .method ≡ 1
       → Given key w (choice (hrw (F key % 2 ^ 31)) (workingSet (w .state .roster))) (SomeOutranks (hrw (F key % 2 ^ 31)) (w .state .roster))
   fromRing : w .state .roster .settings .method ≡ 2 → (e : Entry) → e ≡ entryRead (w .state .roster .held) (F key) (w .ring)
       → Given key w (e .server) (e .track ≢ 0)

@@ -61,19 +61,28 @@ abbrev pub NoneOf : List Line → Type 0
 NoneOf [] = Unit {0}
 NoneOf (l ∷ ls) = (l .when → ⊥) × NoneOf ls
 
--- "1 from the record, 2 chosen and safe, 3 chosen and recorded, 4 chosen, unsafe and no room; 5 record removed, 6 nothing to remove", with the
--- server and the reads: "the place of the record counted from 1, or all records used before the event when the key has none". "Other accepted
--- events carry server, mark and reads 0; so do ends for the server."
+-- "2 chosen and safe, 3 chosen and recorded, 4 chosen, unsafe and no room"
+pub data ChosenMark (Unsafe : Type 0) (t : List ℕ) : ℕ → Type 0 where
+  safe : (Unsafe → ⊥) → ChosenMark Unsafe t 2
+  recorded : Unsafe → used t < room t → ChosenMark Unsafe t 3
+  noRoom : Unsafe → used t ≡ room t → ChosenMark Unsafe t 4
+
+-- server, mark and reads of a packet: "1 from the record"; "the place of the record counted from 1, or all records used before the event when
+-- the key has none"
+pub data PacketMark (key : List ℕ) (w : World) : ℕ → ℕ → ℕ → Type 1 where
+  known : (place : ℕ) → RecordAt key (w .state .table) place → PacketMark key w (serverAt place (w .state .table)) 1 place
+  chosen : NoRecord key (w .state .table) → (s mark : ℕ) (Unsafe : Type 0) → Given key w s Unsafe
+      → ChosenMark Unsafe (w .state .table) mark → PacketMark key w s mark (used (w .state .table))
+
+-- mark and reads of an end: "5 record removed, 6 nothing to remove"
+pub data EndMark (key t : List ℕ) : ℕ → ℕ → Type 0 where
+  gone : (place : ℕ) → RecordAt key t place → EndMark key t 5 place
+  nothing : NoRecord key t → EndMark key t 6 (used t)
+
+-- server, mark and reads by kind: "Other accepted events carry server, mark and reads 0; so do ends for the server."
 pub data MarkRight (kind : ℕ) (key : List ℕ) (w : World) : ℕ → ℕ → ℕ → Type 1 where
-  known : kind ≡ 1 → (place : ℕ) → RecordAt key (w .state .table) place → MarkRight kind key w (serverAt place (w .state .table)) 1 place
-  safe : kind ≡ 1 → NoRecord key (w .state .table) → (s : ℕ) (Unsafe : Type 0) → Given key w s Unsafe → (Unsafe → ⊥)
-      → MarkRight kind key w s 2 (used (w .state .table))
-  recorded : kind ≡ 1 → NoRecord key (w .state .table) → (s : ℕ) (Unsafe : Type 0) → Given key w s Unsafe → Unsafe
-      → used (w .state .table) < room (w .state .table) → MarkRight kind key w s 3 (used (w .state .table))
-  noRoom : kind ≡ 1 → NoRecord key (w .state .table) → (s : ℕ) (Unsafe : Type 0) → Given key w s Unsafe → Unsafe
-      → used (w .state .table) ≡ room (w .state .table) → MarkRight kind key w s 4 (used (w .state .table))
-  ended : kind ≡ 2 → (place : ℕ) → RecordAt key (w .state .table) place → MarkRight kind key w 0 5 place
-  nothing : kind ≡ 2 → NoRecord key (w .state .table) → MarkRight kind key w 0 6 (used (w .state .table))
+  packet : kind ≡ 1 → (s mark reads : ℕ) → PacketMark key w s mark reads → MarkRight kind key w s mark reads
+  end : kind ≡ 2 → (mark reads : ℕ) → EndMark key (w .state .table) mark reads → MarkRight kind key w 0 mark reads
   other : 3 ≤ kind → kind ≤ 7 → MarkRight kind key w 0 0 0
 
 -- "A refusal returns its number, server 0, mark 0, reads 0, and every buffer and the roster stay the same."
