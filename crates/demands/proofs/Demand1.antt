@@ -70,22 +70,18 @@ module _ (bytes : List ℕ) (w : World) (so : sound (w .state .roster) ≡ true)
   kind-is : (n : ℕ) → is n e ≡ true → kindIn bytes ≡ n
   kind-is n k = sym (g .kind) ∙ eqb-true (e .kind) n k
 
-  -- the event's server is the record's, for kinds 3 to 6
-  server-is : 3 ≤ kindIn bytes → kindIn bytes ≤ 6 → e .server ≡ serverIn bytes
-  server-is low high = g .server low high
-
   told-3 : Tells ((kindIn bytes ≡ 5) × ((member (serverIn bytes) (workingSet r) ≡ true) ⊎ (member (serverIn bytes) (horizon r) ≡ true))) (line3 e found pick (w .state))
-  told-3 = tells-and (kind-told 5) (λ k. rw (server-is (omega arith) (omega arith)) (known-told r so (serverIn bytes)))
+  told-3 = tells-and (kind-told 5) (λ k. rw (g .server (omega arith) (omega arith)) (known-told r so (serverIn bytes)))
 
   told-4 : Tells (((kindIn bytes ≡ 3) ⊎ (kindIn bytes ≡ 6)) × (member (serverIn bytes) (horizon r) ≡ false)) (line4 e found pick (w .state))
   told-4 =
       tells-and (tells-or (kind-told 3) (kind-told 6))
       (λ k.
-      rw (server-is (⊎-elim (λ q. omega arith) (λ q. omega arith) k) (⊎-elim (λ q. omega arith) (λ q. omega arith) k))
+      rw (g .server (⊎-elim (λ q. omega arith) (λ q. omega arith) k) (⊎-elim (λ q. omega arith) (λ q. omega arith) k))
       (absent-told r so (serverIn bytes)))
 
   told-5 : Tells ((kindIn bytes ≡ 4) × (member (serverIn bytes) (workingSet r) ≡ false)) (line5 e found pick (w .state))
-  told-5 = tells-and (kind-told 4) (λ k. rw (server-is (omega arith) (omega arith)) (idle-told r so (serverIn bytes)))
+  told-5 = tells-and (kind-told 4) (λ k. rw (g .server (omega arith) (omega arith)) (idle-told r so (serverIn bytes)))
 
   -- a packet that passed refusal 7
   module _ (served : (kindIn bytes ≡ 1) × (workingSet r ≡ []) → ⊥) where

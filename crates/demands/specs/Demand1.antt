@@ -1,6 +1,7 @@
 -- The user's demand 1: "Every event record and every lent buffer is met with a defined reply. Malformed events, unknown servers, a full roster,
 -- unsound rosters, buffers of a wrong length and packets led to a mover not at work are refused by number, and a refusal changes nothing."
--- Stated for every record of bytes and every world, of what `event` and `start` promise. Proved in proofs/Demand1.antt.
+-- For every record of bytes and every world: whatever reply and world afterwards satisfy what `event` promises satisfy Demand1 (`demand1` in
+-- proofs/Demand1.antt; `demand1-start` for `start`), there is such a reply (`demand1-met`), and no second one (`demand1-one`).
 use Prim.Native.Nat.{ℕ, _<_, _≤_}
 use mathlib.Core.Bool.{true, false}
 use mathlib.Core.List.{List, [], _∷_}
