@@ -13,3 +13,9 @@ pub mod Pretenders
 pub mod Roomless
 pub mod EveryEngine
 pub mod Alike
+pub mod Demand1Lent
+pub mod Demand1Record
+pub mod Demand1Packet
+pub mod Demand1Verdict
+pub mod Demand1
+pub mod Demand1One

@@ -1,1 +1,3 @@
 pub mod Demands
+pub mod Causes
+pub mod Demand1

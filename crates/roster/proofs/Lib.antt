@@ -6,6 +6,7 @@ pub mod Form
 pub mod Changes
 pub mod Removed
 pub mod Sets
+pub mod Known
 pub mod SetChanges
 pub mod Bounds
 pub mod Unique

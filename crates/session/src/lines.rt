@@ -74,11 +74,16 @@ fn line(
 ) -> usize {
     let a = put(buffer, from, number, b' ');
     let b = put(buffer, a, kind, b' ');
-    let c = put(buffer, b, said.refusal as u64, b' ');
-    let d = put(buffer, c, said.server as u64, b' ');
-    let e = put(buffer, d, said.mark as u64, b' ');
-    let f = put(buffer, e, said.reads as u64, b' ');
-    put(buffer, f, used, b'\n')
+    let c = put_reply(buffer, b, said);
+    put(buffer, c, used, b'\n')
+}
+
+// Puts a reply's numbers at an index, and says where they end.
+fn put_reply(buffer: &mut [u8], from: usize, said: ReplyNumbers) -> usize {
+    let a = put(buffer, from, said.refusal as u64, b' ');
+    let b = put(buffer, a, said.server as u64, b' ');
+    let c = put(buffer, b, said.mark as u64, b' ');
+    put(buffer, c, said.reads as u64, b' ')
 }
 
 // Puts a number and a byte at an index, where there is room for 21 bytes, and says where they end.

@@ -1,3 +1,4 @@
 pub mod Scans
 pub mod Shifts
+pub mod Zeros
 pub mod Unique
