@@ -1,6 +1,6 @@
 -- What a look finds, by what the event asks and whether its key has a record.
 use Prim.Native.Nat.{ℕ, _+_, _≤_}
-use mathlib.Core.Bool.{Bool, true, false, cond}
+use mathlib.Core.Bool.{Bool, true, false, not, cond}
 use mathlib.Core.List.{List, [], _∷_, map}
 use mathlib.Core.Logic.{⊎-elim}
 use mathlib.Core.Path.{_≡_, refl, sym, ap, _∙_}
@@ -14,12 +14,11 @@ use Rattle.event.specs.declared.Ask.{Ask}
 use Rattle.event.specs.declared.Ask.the-variants.{Packet, End, AddWorking, RemoveWorking, AddHorizon, RemoveHorizon, Configure, Refused}
 use Rattle.event.proofs.Ask.{the-type as the-ask}
 use denote.Enum.Declared.{tagOf}
-use Rattle.event.specs.Event.{requestBy, requestOf}
+use Rattle.event.specs.Event.{requestBy, requestOf, noKey}
 use Rattle.table.specs.declared.Found.{Found}
-use Rattle.table.specs.declared.Found.the-variants.{At, Nothing}
-use Rattle.table.specs.Table.{find, findingOf}
-use Rattle.rules.specs.Rules.{is}
-use Rattle.engine.specs.Looking.{LookupFacts, nothingFound, asksPacket, lookOf}
+use Rattle.table.specs.Table.{Finding, find, findingOf}
+use Rattle.sets.proofs.Cases.{both, clash}
+use Rattle.engine.specs.Looking.{LookupFacts, nothingFound, asksPacket, asksOfKey, lookOf}
 
 -- what is asked by number of its variant, as a match that names only the first variants leaves it
 abbrev pub variant : Ask → ℕ
@@ -41,43 +40,71 @@ no-packet (RemoveHorizon s) h = refl
 no-packet (Configure c) h = refl
 no-packet (Refused n) h = refl
 
+pub no-key : (a : Ask) → 2 ≤ variant a → false ≡ asksOfKey a
+no-key Packet h = absurd (omega arith)
+no-key End h = absurd (omega arith)
+no-key (AddWorking s) h = refl
+no-key (RemoveWorking s) h = refl
+no-key (AddHorizon s) h = refl
+no-key (RemoveHorizon s) h = refl
+no-key (Configure c) h = refl
+no-key (Refused n) h = refl
+
+-- a test that is asked of packets alone
+pub never : (b : Bool) → false ≡ cond b false false
+never true = refl
+never false = refl
+
+pub as-asked : (b : Bool) → b ≡ cond b true false
+as-asked true = refl
+as-asked false = refl
+
+-- an event's kind is that of what it asks, whatever the key
+kind-asked : (a : Ask) (key : List ℕ) → requestBy a key .kind ≡ requestBy a noKey .kind
+kind-asked Packet key = refl
+kind-asked End key = refl
+kind-asked (AddWorking s) key = refl
+kind-asked (RemoveWorking s) key = refl
+kind-asked (AddHorizon s) key = refl
+kind-asked (RemoveHorizon s) key = refl
+kind-asked (Configure c) key = refl
+kind-asked (Refused n) key = refl
+
+key-asked : (a : Ask) (key : List ℕ) → requestBy a key .key ≡ key
+key-asked Packet key = refl
+key-asked End key = refl
+key-asked (AddWorking s) key = refl
+key-asked (RemoveWorking s) key = refl
+key-asked (AddHorizon s) key = refl
+key-asked (RemoveHorizon s) key = refl
+key-asked (Configure c) key = refl
+key-asked (Refused n) key = refl
+
 module _ (e : Event) (t : List ℕ) (sized : Bool) (r : Roster) where
-  look-keyless : (a : Ask) → e .ask ≡ a → is 1 (requestBy a (e .key)) ≡ false → is 2 (requestBy a (e .key)) ≡ false
-      → record { request = requestOf e; found = nothingFound; f = 0; places = 0; sized = sized } ≡ lookOf sized (requestOf e) t r
+  abbrev lookedAs : Finding → ℕ → ℕ → LookupFacts
+  lookedAs found f places = record { request = requestOf e; found = found; f = f; places = places; sized = sized }
+
+  pub look-nothing : asksOfKey (e .ask) ≡ false → lookedAs nothingFound 0 0 ≡ lookOf sized (requestOf e) t r
   unfolding lookOf
-  look-keyless a q f g = rw (q, f, g)
+  look-nothing h =
+      both (asksPacket (e .ask)) (λ p. clash refl (rw p at h)) (λ p. rw (kind-asked (e .ask) (e .key), p, rw p at h))
 
-  look-later : (a : Ask) → e .ask ≡ a → 2 ≤ variant a
-      → record { request = requestOf e; found = nothingFound; f = 0; places = 0; sized = sized } ≡ lookOf sized (requestOf e) t r
-  look-later Packet q h = absurd (omega arith)
-  look-later End q h = absurd (omega arith)
-  look-later (AddWorking s) q h = look-keyless _ q refl refl
-  look-later (RemoveWorking s) q h = look-keyless _ q refl refl
-  look-later (AddHorizon s) q h = look-keyless _ q refl refl
-  look-later (RemoveHorizon s) q h = look-keyless _ q refl refl
-  look-later (Configure c) q h = look-keyless _ q refl refl
-  look-later (Refused n) q h = look-keyless _ q refl refl
-
-  pub look-other : 2 ≤ variant (e .ask)
-      → record { request = requestOf e; found = nothingFound; f = 0; places = 0; sized = sized } ≡ lookOf sized (requestOf e) t r
-  look-other h = look-later (e .ask) refl h
-
-  pub look-end : (found : Found) → e .ask ≡ End → findingOf found ≡ find (e .key) t
-      → record { request = requestOf e; found = findingOf found; f = 0; places = 0; sized = sized } ≡ lookOf sized (requestOf e) t r
+  -- what is found, for a packet or an end; without more where there is a record, or no packet
+  pub look-found : (found : Found) → asksOfKey (e .ask) ≡ true → findingOf found ≡ find (e .key) t
+      → cond (asksPacket (e .ask)) (not (findingOf found .found)) false ≡ false
+      → lookedAs (findingOf found) 0 0 ≡ lookOf sized (requestOf e) t r
   unfolding lookOf
-  look-end found q w = rw (q, w)
+  look-found found h w u =
+      both (asksPacket (e .ask))
+      (λ p. let v : not (find (e .key) t .found) ≡ false = rw (p, w) at u in rw (kind-asked (e .ask) (e .key), key-asked (e .ask) (e .key), p, w, v))
+      (λ p. rw (kind-asked (e .ask) (e .key), key-asked (e .ask) (e .key), p, rw p at h, w))
 
-  pub look-known : (found : Found) (n : ℕ) → e .ask ≡ Packet → findingOf found ≡ find (e .key) t → found ≡ At n
-      → record { request = requestOf e; found = findingOf found; f = 0; places = 0; sized = sized } ≡ lookOf sized (requestOf e) t r
-  unfolding lookOf
-  look-known found n q w a =
-      let h : find (e .key) t ≡ record { found = true; reads = n } = sym w ∙ ap findingOf a in
-      rw (q, a, h)
-
-  pub look-open : (found : Found) (n f p : ℕ) → e .ask ≡ Packet → findingOf found ≡ find (e .key) t → found ≡ Nothing n
+  pub look-open : (found : Found) (f p : ℕ) → findingOf found ≡ find (e .key) t
+      → cond (asksPacket (e .ask)) (not (findingOf found .found)) false ≡ true
       → f ≡ F (e .key) → p ≡ cond (eqb (r .settings .method) 2) (r .held) 0
-      → record { request = requestOf e; found = findingOf found; f = f; places = p; sized = sized } ≡ lookOf sized (requestOf e) t r
+      → lookedAs (findingOf found) f p ≡ lookOf sized (requestOf e) t r
   unfolding lookOf
-  look-open found n f p q w a u v =
-      let h : find (e .key) t ≡ record { found = false; reads = n } = sym w ∙ ap findingOf a in
-      rw (q, a, h, u, v)
+  look-open found f p w u x y =
+      both (asksPacket (e .ask))
+      (λ q. let v : not (find (e .key) t .found) ≡ true = rw (q, w) at u in rw (kind-asked (e .ask) (e .key), key-asked (e .ask) (e .key), q, w, v, x, y))
+      (λ q. clash (rw q at u) refl)

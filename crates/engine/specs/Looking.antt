@@ -1,7 +1,7 @@
 -- How the engine is cut, so that it never sees the ring: what a look at the record finds before the ring is read, the reaction to it, and
 -- the ring drawn for the roster that the reaction hands back. `eventOf` is put together from these (proofs/Whole.antt); no statement cites them.
 use Prim.Native.Nat.{ℕ}
-use mathlib.Core.Bool.{Bool, false, cond, not}
+use mathlib.Core.Bool.{Bool, true, false, cond, not}
 use mathlib.Core.List.{List}
 use lib.Dec.{eqb}
 use Rattle.hash.specs.Hash.{F}
@@ -50,10 +50,14 @@ lookOf sized e t r =
       sized = sized;
     }
 
--- refusals 9 and 11 before anything is done; a packet's 11 is left to the packet
+-- a packet; a packet or an end
 abbrev pub asksPacket : Ask → Bool
 asksPacket a = is packetKind (requestBy a noKey)
 
+abbrev pub asksOfKey : Ask → Bool
+asksOfKey a = cond (asksPacket a) true (is endKind (requestBy a noKey))
+
+-- refusals 9 and 11 before anything is done; a packet's 11 is left to the packet
 unfoldable pub admittedAsk : Bool → Bool → Ask → Ask
 admittedAsk sized rosterSound a = cond sized (cond (asksPacket a) a (cond rosterSound a (Refused 11))) (Refused 9)
 

@@ -19,7 +19,7 @@ ghost use Rattle.event.specs.Event.{eventIn};
 ghost use Rattle.roster.specs.Roster.{sound as sound-of, heldServers, workingSet};
 ghost use Rattle.ringplan.specs.Plan.{planned};
 ghost use Rattle.rules.specs.Rules.{stateWith, worldWith, StartPromise, sizesRight};
-ghost use Rattle.engine.specs.Looking.{lookOf, lookupFacts, asksPacket, admittedAsk, reactOf};
+ghost use Rattle.engine.specs.Looking.{lookOf, lookupFacts, admittedAsk, reactOf};
 ghost use Rattle.answers.specs.Reacting.{reacted};
 
 // What a look at an event record finds before the ring is read.
@@ -87,23 +87,13 @@ fn admit(ask: Ask, sized: bool, roster: Roster) -> Ask
     if !sized {
         return Ask::Refused(9);
     }
-    if is_packet(ask) {
+    if looking::is_packet(ask) {
         return ask;
     }
     if !roster::sound(roster) {
         return Ask::Refused(11);
     }
     ask
-}
-
-// Whether a packet is asked for.
-fn is_packet(ask: Ask) -> bool
-    ensures { λ v. ⌜ v ≡ asksPacket ask ⌝ }
-{
-    match ask {
-        Ask::Packet => true,
-        _ => false,
-    }
 }
 
 // Starts on a lent table: refused only by 9, else the table is zeroed and the roster is empty.

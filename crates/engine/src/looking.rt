@@ -7,11 +7,11 @@ use table::Found;
 ghost use mathlib.Core.Path.{_≡_};
 ghost use Rattle.event.specs.Event.{requestOf};
 ghost use Rattle.rules.specs.Rules.{sizesRight};
-ghost use mathlib.Core.Bool.{cond};
+ghost use mathlib.Core.Bool.{cond, not, false};
 ghost use lib.Dec.{eqb};
 ghost use Rattle.settings.specs.Settings.{byRing};
-ghost use Rattle.event.specs.declared.Ask.the-variants.{Packet};
-ghost use Rattle.engine.specs.Looking.{lookOf, lookupFacts, nothingFound};
+ghost use Rattle.table.specs.Table.{findingOf};
+ghost use Rattle.engine.specs.Looking.{lookOf, lookupFacts, nothingFound, asksPacket, asksOfKey};
 
 // Whether every lent buffer has its length: refusal 9.
 pub(crate) fn sizes_right(table: usize, rows: usize, flags: usize, ring: usize) -> bool
@@ -36,50 +36,62 @@ pub(crate) fn sizes_right(table: usize, rows: usize, flags: usize, ring: usize) 
 }
 
 // Looks for the key's record, where the event has a key; for a packet without one also F of the key,
-// and how many ring entries are to be searched.
+// and how many ring entries are to be searched. The table is searched in this one place.
 pub(crate) fn seek(event: Event, table: &[u8], sized: bool, roster: Roster) -> Lookup
     ensures { λ s. ⌜ lookupFacts s ≡ lookOf sized (requestOf event) (now (table .entry)) roster ⌝ }
 {
     let ask = event.ask;
-    match ask {
-        Ask::Packet => seek_packet(event, table, sized, roster),
-        Ask::End => {
-            let key = event.key;
-            let found = table::find(table, key);
-            Lookup {
-                event: event,
-                found: found,
-                f: 0,
-                places: 0,
-                sized: sized,
-            }
-        }
-        _ => seek_nothing(event, sized),
+    if !has_key(ask) {
+        return seek_nothing(event, sized);
     }
-}
-
-// A packet: its key's record, or F of the key.
-fn seek_packet(event: Event, table: &[u8], sized: bool, roster: Roster) -> Lookup
-    requires { ⌜ event .ask ≡ Packet ⌝ }
-    ensures { λ s. ⌜ lookupFacts s ≡ lookOf sized (requestOf event) (now (table .entry)) roster ⌝ }
-{
     let key = event.key;
     let found = table::find(table, key);
-    match found {
-        Found::At(_) => Lookup {
+    if !unrecorded(ask, found) {
+        return Lookup {
             event: event,
             found: found,
             f: 0,
             places: 0,
             sized: sized,
-        },
-        Found::Nothing(_) => Lookup {
-            event: event,
-            found: found,
-            f: hash::fnv(&key),
-            places: places_read(roster),
-            sized: sized,
-        },
+        };
+    }
+    Lookup {
+        event: event,
+        found: found,
+        f: hash::fnv(&key),
+        places: places_read(roster),
+        sized: sized,
+    }
+}
+
+// Whether the event has a key: a packet or an end.
+fn has_key(ask: Ask) -> bool
+    ensures { λ v. ⌜ v ≡ asksOfKey ask ⌝ }
+{
+    match ask {
+        Ask::Packet => true,
+        Ask::End => true,
+        _ => false,
+    }
+}
+
+// Whether it is a packet whose key has no record.
+fn unrecorded(ask: Ask, found: Found) -> bool
+    ensures { λ v. ⌜ v ≡ cond (asksPacket ask) (not (findingOf found .found)) false ⌝ }
+{
+    match found {
+        Found::At(_) => false,
+        Found::Nothing(_) => is_packet(ask),
+    }
+}
+
+// Whether a packet is asked for.
+pub(crate) fn is_packet(ask: Ask) -> bool
+    ensures { λ v. ⌜ v ≡ asksPacket ask ⌝ }
+{
+    match ask {
+        Ask::Packet => true,
+        _ => false,
     }
 }
 

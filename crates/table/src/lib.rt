@@ -57,25 +57,24 @@ pub fn used(table: &[u8]) -> usize
     i
 }
 
-// The first used record with a key.
+// The first used record with a key. The loop counts bytes, and only its end counts records: so it has one number to carry.
 pub fn find(table: &[u8], key: [u8; KEY_BYTES]) -> Found
     ensures { λ r. ⌜ findingOf r ≡ find-of key (now (table .entry)) ⌝ }
 {
     let front = word_at(&key, 0);
     let back = word_at(&key, 5);
-    let room = table.len() / RECORD_BYTES;
-    let mut i = 0;
-    while i < room {
-        let at = i * RECORD_BYTES;
+    let end = table.len() / RECORD_BYTES * RECORD_BYTES;
+    let mut at = 0;
+    while at < end {
         if !used_tag(table[at + TAG_OFFSET]) {
-            return Found::Nothing(i);
+            return Found::Nothing(at / RECORD_BYTES);
         }
         if has_words(table, at, front, back) {
-            return Found::At(i + 1);
+            return Found::At(at / RECORD_BYTES + 1);
         }
-        i += 1;
+        at += RECORD_BYTES;
     }
-    Found::Nothing(i)
+    Found::Nothing(at / RECORD_BYTES)
 }
 
 // The server that the record at a place names, 0 where there is no such place.

@@ -1,9 +1,9 @@
--- `engine::is_packet` meets its contract.
+-- `engine::looking::is_packet` meets its contract.
 use mathlib.Core.List.{[], _∷_}
 use Rattle.engine.proofs.OfLooking.{none-below, no-packet}
 use borrow.Author.Needs.{needs}
-use Rattle.engine.proofs.is_packet.Statement.{statement}
-use Rattle.engine.proofs.is_packet.Tie as tie
+use Rattle.engine.proofs.looking.is_packet.Statement.{statement}
+use Rattle.engine.proofs.looking.is_packet.Tie as tie
 
 enum-told : tie.Need-enum-told
 enum-told c = search needs
