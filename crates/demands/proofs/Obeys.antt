@@ -5,7 +5,7 @@ use mathlib.Core.List.{List, []}
 use mathlib.Core.Path.{_≡_, sym, ap, _∙_}
 use lib.ListN.{length}
 use Rattle.sets.proofs.Cases.{both, not-so}
-use Rattle.ranking.specs.Ranking.{picked}
+use Rattle.ranking.specs.Ranking.{pickOf, picked}
 use Rattle.roster.specs.Roster.{workingSet, horizon, emptyRoster}
 use Rattle.event.specs.Event.{asksKey, eventIn}
 use Rattle.event.proofs.Reading.{reading}
@@ -51,7 +51,7 @@ module _ (w : World) (i : Inner w) where
         let e = eventIn bytes in
         let none : is 1 e && some (workingSet (w .state .roster)) ≡ false =
         both (is 1 e) (λ k. rw k (not-so (λ works. n (e .key) (asked-packet bytes k) works))) (λ k. rw k) in
-        let same = judged-same e (find (e .key) (w .state .table)) (pickAt w (e .key)) (record { server = 0; flag = false }) (w .state) [] [] none in
+        let same = judged-same e (find (e .key) (w .state .table)) (pickAt w (e .key)) (pickOf 0 false) (w .state) [] [] none in
         rw (event-judged w (i .along) bytes) (same .answer, same .table, same .roster)
 
 -- a start is accepted exactly where the sizes are right

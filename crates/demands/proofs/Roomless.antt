@@ -8,7 +8,7 @@ use native.Mathlib.Omega.{arith}
 use lib.Dec.{eqb}
 use lib.ListN.{replicate, length-replicate}
 use Rattle.sets.proofs.Cases.{both}
-use Rattle.ranking.specs.Ranking.{unsafe}
+use Rattle.ranking.specs.Ranking.{pickOf, unsafe}
 use Rattle.roster.specs.declared.Roster.{Roster}
 use Rattle.roster.specs.Roster.{workingSet, horizon}
 use Rattle.event.specs.Event.{Request, eventIn}
@@ -29,7 +29,7 @@ module _ (n : ℕ) where
 
   -- nothing but a packet's record changes a table without records
   effect-stays : (e : Request) (r : Roster)
-      → effect e (find (e .key) (replicate n 0)) (record { server = 0; flag = false }) (blank r) .state .table ≡ replicate n 0
+      → effect e (find (e .key) (replicate n 0)) (pickOf 0 false) (blank r) .state .table ≡ replicate n 0
   unfolding effect packet end
   effect-stays e r =
       let none = clear-find n (e .key) in
@@ -44,7 +44,7 @@ module _ (n : ℕ) where
   unfolding judged
   other-stays e r =
       both (is 0 e) (λ k. rw k) (λ k.
-      both (eqb (barred e (find (e .key) (replicate n 0)) (record { server = 0; flag = false }) (blank r)) 0)
+      both (eqb (barred e (find (e .key) (replicate n 0)) (pickOf 0 false) (blank r)) 0)
       (λ b. rw (k, b) (effect-stays e r))
       (λ b. rw (k, b)))
 

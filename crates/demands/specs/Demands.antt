@@ -6,7 +6,7 @@ use mathlib.Core.Logic.{_≢_, _↔_, _⊎_}
 use mathlib.Core.Path.{_≡_}
 use lib.ListN.{replicate}
 use Rattle.sets.specs.Sets.{member}
-use Rattle.ranking.specs.Ranking.{Ranking, choice, SomeChange}
+use Rattle.ranking.specs.Ranking.{Ranking, choice, pickOf, SomeChange}
 use Rattle.roster.specs.declared.Roster.{Roster}
 use Rattle.roster.specs.Roster.{stateOf, working, heldServers, workingSet, horizon, emptyRoster}
 use Rattle.event.specs.Event.{Request, allBytes, asksKey, eventIn}
@@ -100,7 +100,7 @@ pub record PacketRight (key t : List ℕ) (r : Roster) (a : Answer) (t′ : List
 -- no row, flag or ring entry there, so empty ones are handed in.
 abbrev pub otherwise : Request → List ℕ → Roster → Change
 otherwise e t r =
-    judged e (find (e .key) t) (record { server = 0; flag = false }) (stateWith t [] [] r)
+    judged e (find (e .key) t) (pickOf 0 false) (stateWith t [] [] r)
 
 -- "From a fresh start, with buffers and roster that only the balancer alters": demand 2 of an engine whose table has n bytes
 pub record Demand2 (n : ℕ) (E : Engine) : Type 0 where

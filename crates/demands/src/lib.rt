@@ -1,1 +1,1 @@
-// The user's demands 2 and 3 as theorems: statements in specs/, proofs in proofs/. There is no code in this crate.
+// Demands 1, 2 and 3 as statements, and their proofs. There is no code in this crate.

@@ -95,7 +95,8 @@ fn lead(
 
 // What methods 2 and 3 read: the row, or the ring's entry.
 fn read_pick(f: u32, spot: Entry, rows: &[u32], flags: &[u8], settings: Settings) -> Pick
-    ensures { λ p. ⌜ p ≡ cond (eqb (settings .method) byRowTable) (rowRead (settings .rows) f (record { servers = now (rows .entry); flags = now (flags .entry) })) (gives spot) ⌝ }
+    ensures { λ p. ⌜ p ≡ cond (eqb (settings .method) byRowTable)
+        (rowRead (settings .rows) f (record { servers = now (rows .entry); flags = now (flags .entry) })) (gives spot) ⌝ }
 {
     if settings.method == settings::ROW_TABLE {
         return rows::read(rows, flags, settings.rows, f);
@@ -109,7 +110,8 @@ fn read_pick(f: u32, spot: Entry, rows: &[u32], flags: &[u8], settings: Settings
 // A key with a record: its server, or a refusal.
 fn known(place: usize, table: &[u8], servers: &[u32], states: &[u8]) -> Reply
     ensures { λ v. ⌜ ((key : List ℕ) (pick : Pick) (rows flags : List ℕ) (r : Roster) → Lent r (now (servers .entry)) (now (states .entry))
-        → replied v (now (table .entry)) rows flags r ≡ judged (asksKey 1 key) (findingOf (Found.At place)) pick (stateWith (now (table .entry)) rows flags r)) ⌝ }
+        → replied v (now (table .entry)) rows flags r
+        ≡ judged (asksKey 1 key) (findingOf (Found.At place)) pick (stateWith (now (table .entry)) rows flags r)) ⌝ }
 {
     let server = table::server_at(table, place);
     if roster::parts::state_in(servers, states, server) != sets::WORKING {
@@ -125,7 +127,8 @@ fn known(place: usize, table: &[u8], servers: &[u32], states: &[u8]) -> Reply
 // The server picked, which works: it is recorded where it is unsafe and there is room.
 fn settle(key: [u8; table::KEY_BYTES], used: usize, pick: Pick, table: &mut [u8]) -> Reply
     ensures { λ v. ⌜ ((rows flags : List ℕ) (r : Roster)
-        → replied v (now (table .exit)) rows flags r ≡ packet-done key (findingOf (Found.Nothing used)) pick (stateWith (now (table .entry)) rows flags r)) ⌝ }
+        → replied v (now (table .exit)) rows flags r
+        ≡ packet-done key (findingOf (Found.Nothing used)) pick (stateWith (now (table .entry)) rows flags r)) ⌝ }
 {
     let server = pick.server;
     if !pick.flag {

@@ -49,7 +49,8 @@ pub fn fill(rows: &mut [u32], flags: &mut [u8], count: u16, servers: &[u32], sta
 
 // Zeroes the first `count` rows and their flags: a fill for no server at all.
 pub fn clear(rows: &mut [u32], flags: &mut [u8], count: u16)
-    ensures { λ _. ⌜ record { servers = now (rows .exit); flags = now (flags .exit) } ≡ cleared count (record { servers = now (rows .entry); flags = now (flags .entry) }) ⌝ }
+    ensures { λ _. ⌜ record { servers = now (rows .exit); flags = now (flags .exit) }
+        ≡ cleared count (record { servers = now (rows .entry); flags = now (flags .entry) }) ⌝ }
 {
     let servers = [0u32; 1];
     let states = [0u8; 1];

@@ -183,7 +183,9 @@ fn put(s: &mut [u8], key: [u8; KEY_BYTES], server: u32)
 fn close_gap(table: &mut [u8], i: usize, n: usize)
     requires { ⌜ (i < n) × (n * recordBytes ≤ length (now table)) ⌝ }
     ensures { λ _. ⌜ now (table .exit)
-        ≡ take (i * recordBytes) (now (table .entry)) ++ ((drop recordBytes (take (n * recordBytes - i * recordBytes) (drop (i * recordBytes) (now (table .entry)))) ++ replicate recordBytes 0) ++ drop (n * recordBytes) (now (table .entry))) ⌝ }
+        ≡ take (i * recordBytes) (now (table .entry))
+        ++ ((drop recordBytes (take (n * recordBytes - i * recordBytes) (drop (i * recordBytes) (now (table .entry)))) ++ replicate recordBytes 0)
+        ++ drop (n * recordBytes) (now (table .entry))) ⌝ }
 {
     let a = i * RECORD_BYTES;
     let e = n * RECORD_BYTES;
