@@ -3,13 +3,14 @@
 use Prim.Native.Nat.{ℕ, _%_, _<_, _≤_}
 use mathlib.Core.Bool.{true}
 use mathlib.Core.List.{List, [], _∷_}
-use mathlib.Core.Path.{_≡_, ap, _∙_}
+use mathlib.Core.Path.{_≡_, refl, ap, _∙_}
 use lib.ListN.{length}
 use Rattle.rules.specs.Answer.{answerOf}
 use Rattle.rules.specs.Rules.{World, Done, eventOf}
 use Rattle.histories.specs.Histories.{startAccepted, after, answer, AllBytes}
 use Rattle.demands.specs.Demands.{Engine, ours, InUse, Keeps, shown, Demand2, Demand3}
 use Rattle.demands.proofs.Alike.{Alike, alike-obeys, alike-steady}
+use Rattle.demands.proofs.Demand1.{demand1-met, demand1-start-met}
 use Rattle.demands.proofs.Obeys.{ours-obeys}
 use Rattle.demands.proofs.Same.{same-engines, same-answers}
 use Rattle.demands.proofs.Steady.{ours-steady}
@@ -64,3 +65,29 @@ module _ (n : ℕ) (above : 0 < n) (few : n ≤ 65520) (whole : n % 20 ≡ 0) (E
   -- DEMAND 3
   pub every-steady : Demand3 E
   every-steady = alike-steady E (ours (blankWorld n)) every-alike (ours-steady (blankWorld n) (blank-starts n above few whole))
+
+-- ---- there are balancers that keep their promises, from every accepted start
+module _ (w : World) where
+  abbrev grown : List (List ℕ) → World
+  grown [] = demand1-start-met w .0
+  grown (bytes ∷ h) = demand1-met bytes (grown h) .0
+
+  abbrev keeper : InUse
+  keeper =
+      record {
+        former = w;
+        started = demand1-start-met w .1;
+        world = grown;
+        reply = λ h bytes. demand1-met bytes (grown h) .1;
+      }
+
+  pub keepers-met : startAccepted w ≡ true → (B : InUse) × (B .former ≡ w) × Keeps B
+  keepers-met a = (
+    keeper,
+    refl,
+    record {
+      accepted = ap (λ (d : Done). d .answer .accepted) (demand1-start-met w .2) ∙ a;
+      starts = demand1-start-met w .2;
+      goes = λ h bytes b. demand1-met bytes (grown h) .2;
+    },
+  )

@@ -59,26 +59,16 @@ pub as-asked : (b : Bool) → b ≡ cond b true false
 as-asked true = refl
 as-asked false = refl
 
--- an event's kind is that of what it asks, whatever the key
-kind-asked : (a : Ask) (key : List ℕ) → requestBy a key .kind ≡ requestBy a noKey .kind
-kind-asked Packet key = refl
-kind-asked End key = refl
-kind-asked (AddWorking s) key = refl
-kind-asked (RemoveWorking s) key = refl
-kind-asked (AddHorizon s) key = refl
-kind-asked (RemoveHorizon s) key = refl
-kind-asked (Configure c) key = refl
-kind-asked (Refused n) key = refl
-
-key-asked : (a : Ask) (key : List ℕ) → requestBy a key .key ≡ key
-key-asked Packet key = refl
-key-asked End key = refl
-key-asked (AddWorking s) key = refl
-key-asked (RemoveWorking s) key = refl
-key-asked (AddHorizon s) key = refl
-key-asked (RemoveHorizon s) key = refl
-key-asked (Configure c) key = refl
-key-asked (Refused n) key = refl
+-- an event's kind is that of what it asks, whatever the key, which it keeps
+asked-of : (a : Ask) (key : List ℕ) → (requestBy a key .kind ≡ requestBy a noKey .kind) × (requestBy a key .key ≡ key)
+asked-of Packet key = (refl, refl)
+asked-of End key = (refl, refl)
+asked-of (AddWorking s) key = (refl, refl)
+asked-of (RemoveWorking s) key = (refl, refl)
+asked-of (AddHorizon s) key = (refl, refl)
+asked-of (RemoveHorizon s) key = (refl, refl)
+asked-of (Configure c) key = (refl, refl)
+asked-of (Refused n) key = (refl, refl)
 
 module _ (e : Event) (t : List ℕ) (sized : Bool) (r : Roster) where
   abbrev lookedAs : Finding → ℕ → ℕ → LookupFacts
@@ -87,7 +77,7 @@ module _ (e : Event) (t : List ℕ) (sized : Bool) (r : Roster) where
   pub look-nothing : asksOfKey (e .ask) ≡ false → lookedAs nothingFound 0 0 ≡ lookOf sized (requestOf e) t r
   unfolding lookOf
   look-nothing h =
-      both (asksPacket (e .ask)) (λ p. clash refl (rw p at h)) (λ p. rw (kind-asked (e .ask) (e .key), p, rw p at h))
+      both (asksPacket (e .ask)) (λ p. clash refl (rw p at h)) (λ p. rw (asked-of (e .ask) (e .key) .0, p, rw p at h))
 
   -- what is found, for a packet or an end; without more where there is a record, or no packet
   pub look-found : (found : Found) → asksOfKey (e .ask) ≡ true → findingOf found ≡ find (e .key) t
@@ -96,8 +86,8 @@ module _ (e : Event) (t : List ℕ) (sized : Bool) (r : Roster) where
   unfolding lookOf
   look-found found h w u =
       both (asksPacket (e .ask))
-      (λ p. let v : not (find (e .key) t .found) ≡ false = rw (p, w) at u in rw (kind-asked (e .ask) (e .key), key-asked (e .ask) (e .key), p, w, v))
-      (λ p. rw (kind-asked (e .ask) (e .key), key-asked (e .ask) (e .key), p, rw p at h, w))
+      (λ p. let v : not (find (e .key) t .found) ≡ false = rw (p, w) at u in rw (asked-of (e .ask) (e .key) .0, asked-of (e .ask) (e .key) .1, p, w, v))
+      (λ p. rw (asked-of (e .ask) (e .key) .0, asked-of (e .ask) (e .key) .1, p, rw p at h, w))
 
   pub look-open : (found : Found) (f p : ℕ) → findingOf found ≡ find (e .key) t
       → cond (asksPacket (e .ask)) (not (findingOf found .found)) false ≡ true
@@ -106,5 +96,5 @@ module _ (e : Event) (t : List ℕ) (sized : Bool) (r : Roster) where
   unfolding lookOf
   look-open found f p w u x y =
       both (asksPacket (e .ask))
-      (λ q. let v : not (find (e .key) t .found) ≡ true = rw (q, w) at u in rw (kind-asked (e .ask) (e .key), key-asked (e .ask) (e .key), q, w, v, x, y))
+      (λ q. let v : not (find (e .key) t .found) ≡ true = rw (q, w) at u in rw (asked-of (e .ask) (e .key) .0, asked-of (e .ask) (e .key) .1, q, w, v, x, y))
       (λ q. clash (rw q at u) refl)
