@@ -6,14 +6,14 @@ use mathlib.Core.Logic.{_⊎_, ⊎-elim}
 use mathlib.Core.Path.{_≡_, refl, sym, ap, _∙_}
 use native.Mathlib.Omega.{arith}
 use lib.Dec.{eqb}
-use lib.ListN.{length, drop}
+use lib.ListN.{length, drop, replicate}
 use borrow.Author.Tests.{eqb-true, eqb-false, ne-eqb, not-true, not-false}
 use Rattle.sets.specs.Sets.{member}
 use Rattle.sets.proofs.Cases.{both, clash}
 use Rattle.hash.specs.Hash.{F}
 use Rattle.ranking.specs.declared.Pick.{Pick}
 use Rattle.roster.specs.declared.Roster.{Roster}
-use Rattle.roster.specs.Roster.{sound, stateOf, workingSet, horizon}
+use Rattle.roster.specs.Roster.{sound, stateOf, workingSet, horizon, emptyRoster}
 use Rattle.roster.proofs.Sets.{working-state, horizon-state}
 use Rattle.roster.proofs.Known.{known-sets}
 use Rattle.event.specs.Event.{Request}
@@ -23,7 +23,7 @@ use Rattle.ringplan.specs.Plan.{some}
 use Rattle.rules.specs.declared.Reply.{Reply}
 use Rattle.rules.specs.declared.Reply.the-variants.{Accepted, Refused}
 use Rattle.rules.specs.Answer.{Answer, accepts, answerOf}
-use Rattle.rules.specs.Rules.{World, Done, is, barred, effect, judged, pickBy, sizedFor, lentBar, admitted, eventOf, startOf, EventPromise, StartPromise}
+use Rattle.rules.specs.Rules.{World, worldWith, Done, is, barred, effect, judged, pickBy, sizedFor, lentBar, admitted, eventOf, startOf, EventPromise, StartPromise}
 use Rattle.rules.proofs.Refusals.{refused-changes-nothing, refused-start-changes-nothing}
 use Rattle.histories.proofs.Barring.{line3, line4, line5, line8}
 use Rattle.demands.specs.Causes.{kindIn, keyIn, serverIn, LedAstray}
@@ -223,6 +223,12 @@ demand1-start-met before =
     let (reply, q) = answered zeros-reply (start-right before) in
     (w, reply, ap (λ (a : Answer). record { answer = a; world = w }) q)
 
+-- what an accepted start leaves
+start-leaves : (w : World) → startOf w .answer .accepted ≡ true
+    → startOf w .world ≡ worldWith (replicate (length (w .state .table)) 0) (w .state .rows) (w .state .flags) (w .ring) emptyRoster
+unfolding startOf
+start-leaves w = both (sizedFor (length (w .ring)) (w .state)) (λ t. rw t (λ _. refl)) (λ t. rw t (λ a. clash a refl))
+
 pub demand1-start : (before after : World) (reply : Reply) → StartPromise before after reply → Demand1Start before after reply
 demand1-start before after reply p =
     let a : answerOf reply ≡ startOf before .answer = ap (λ (d : Done). d .answer) p in
@@ -235,6 +241,9 @@ demand1-start before after reply p =
             let (s, mark, reads, q) = accepted-exactly zeros-says (lengthLine before ∷ []) reply v .1 o in
             reply-zeros reply (accepted-right zeros-says v (ap (λ (x : Reply). answerOf x .accepted) q)),
       );
+      leaves = λ q.
+          ap (λ (d : Done). d .world) p
+          ∙ start-leaves before (sym (ap (λ (x : Answer). x .accepted) a) ∙ ap (λ (x : Reply). answerOf x .accepted) q);
       refusal = λ n q.
           record {
             told = ap answerOf q;

@@ -7,13 +7,14 @@ use mathlib.Core.Bool.{true, false}
 use mathlib.Core.List.{List, [], _∷_}
 use mathlib.Core.Logic.{_≢_, _↔_, _⊎_}
 use mathlib.Core.Path.{_≡_}
+use lib.ListN.{length, replicate}
 use Rattle.sets.specs.Sets.{member}
-use Rattle.roster.specs.Roster.{workingSet, horizon}
+use Rattle.roster.specs.Roster.{workingSet, horizon, emptyRoster}
 use Rattle.table.specs.Table.{used, room, serverAt}
 use Rattle.rules.specs.declared.Reply.{Reply}
 use Rattle.rules.specs.declared.Reply.the-variants.{Accepted, Refused}
 use Rattle.rules.specs.Answer.{answerOf}
-use Rattle.rules.specs.Rules.{World}
+use Rattle.rules.specs.Rules.{World, worldWith}
 use Rattle.demands.specs.Causes.{kindIn, keyIn, serverIn, WrongLength, Unsound, Malformed, RecordAt, NoRecord, Given, LedAstray}
 
 -- "Refusal numbers": a number and when it applies
@@ -102,8 +103,11 @@ pub record Demand1 (bytes : List ℕ) (before after : World) (reply : Reply) : T
   pub told : (s mark reads : ℕ) → reply ≡ Accepted s mark reads
       → answerOf reply ≡ record { accepted = true; refusal = 0; server = s; mark = mark; reads = reads }
 
--- "A start is refused only by 9; accepted, it replies server, mark and reads 0"
+-- "A start is refused only by 9; accepted, it replies server, mark and reads 0 and leaves rows, flags and ring as they are"; "Starting zeroes
+-- the whole table, empties the roster and selects method 1."
 pub record Demand1Start (before after : World) (reply : Reply) : Type 0 where
   pub refused : (n : ℕ) → (reply ≡ Refused n) ↔ FirstIs n (lengthLine before ∷ [])
   pub accepted : (reply ≡ Accepted 0 0 0) ↔ NoneOf (lengthLine before ∷ [])
+  pub leaves : reply ≡ Accepted 0 0 0
+      → after ≡ worldWith (replicate (length (before .state .table)) 0) (before .state .rows) (before .state .flags) (before .ring) emptyRoster
   pub refusal : (n : ℕ) → reply ≡ Refused n → RefusedRight n before after reply

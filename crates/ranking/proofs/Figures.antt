@@ -3,8 +3,8 @@ use Prim.Native.Nat.{ℕ}
 use mathlib.Core.Bool.{Bool, cond}
 use mathlib.Core.List.{List, [], _∷_, map}
 use mathlib.Core.Path.{_≡_, refl}
-use Rattle.hash.specs.Hash.{stir, stirAll, F, weight, distance}
-use Rattle.ranking.specs.Methods.{hrw, rowServer, rowFlag}
+use Rattle.hash.specs.Hash.{stir, stirAll, F, weight, position, distance}
+use Rattle.ranking.specs.Methods.{hrw, ring, rowServer, rowFlag}
 
 -- a figure's mark (9 for P9), what our definitions give, and what the document says
 pub record Figure : Type 0 where
@@ -49,3 +49,20 @@ figures =
 pub figures-right : map (λ (f : Figure). f .gives) figures ≡ map (λ (f : Figure). f .says) figures
 unfolding weight distance F stirAll stir
 figures-right = refl
+
+-- Further figures, so that a zero byte isn't all that is hashed: the FNV authors' vectors of "a" and "foobar", three servers' positions, two of them
+-- the same, and "At equal positions the higher number outranks." (their mark is 0)
+abbrev pub further : List Figure
+further =
+    P 0 (F (97 ∷ [])) 3826002220
+    ∷ P 0 (F (102 ∷ 111 ∷ 111 ∷ 98 ∷ 97 ∷ 114 ∷ [])) 3214735720
+    ∷ P 0 (position 4026531841) 833780210
+    ∷ P 0 (position 15074560) 1309807150
+    ∷ P 0 (position 108036203) 1309807150
+    ∷ P 0 (number (ring 0 108036203 15074560)) 1
+    ∷ P 0 (number (ring 0 15074560 108036203)) 0
+    ∷ []
+
+pub further-right : map (λ (f : Figure). f .gives) further ≡ map (λ (f : Figure). f .says) further
+unfolding distance F stirAll stir
+further-right = refl

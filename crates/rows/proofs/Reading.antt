@@ -81,6 +81,12 @@ module _ (count : ℕ) (working horizon : List ℕ) (rows : Rows) where
     past (inUse count rows) i (filled count working horizon rows .flags) (rows .flags) h (filled-rest .1),
   )
 
+  -- "Rows past the count are never touched"
+  pub filled-uncounted : (i : ℕ) → count ≤ i
+      → (getD (filled count working horizon rows .servers) i 0 ≡ getD (rows .servers) i 0)
+      × (getD (filled count working horizon rows .flags) i 0 ≡ getD (rows .flags) i 0)
+  filled-uncounted i h = filled-past i (omega arith)
+
   -- "no matter what they held before": a second fill leaves nothing of the first
   pub filled-again : (working′ horizon′ : List ℕ)
       → filled count working′ horizon′ (filled count working horizon rows) ≡ filled count working′ horizon′ rows

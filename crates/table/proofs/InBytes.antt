@@ -8,6 +8,7 @@ use lib.Dec.{eqb}
 use lib.ListN.{length, getD, take, drop, replicate, length-append, length-drop, length-replicate}
 use lib.Seq.{take-at, drop-at, length-take-le, getD-take, getD-drop}
 use borrow.Author.Tests.{eqb-true, eqb-false, eq-eqb, ne-eqb, lt-ltb}
+use Rattle.bigendian.specs.BigEndian.{bytes4}
 use Rattle.sets.proofs.Cases.{both}
 use Rattle.spans.specs.Spans.{allZero}
 use Rattle.spans.proofs.Scans.{zeros-allZero}
@@ -51,7 +52,8 @@ module _ (n : ℕ) (key : List ℕ) (s : ℕ) (t : List ℕ) (k : length key ≡
   pub written-before : take (n * 20) (writtenAfter n key s t) ≡ take (n * 20) t
   written-before = ap (λ (l : List ℕ). take (n * 20) l) written ∙ take-at (take (n * 20) t) (newRecord key s ++ drop ((n + 1) * 20) t) (n * 20) front
 
-  pub written-here : take 20 (drop (n * 20) (writtenAfter n key s t)) ≡ newRecord key s
+  -- "key 13, tag 1, two zero bytes, server 4 big-endian", written out
+  pub written-here : take 20 (drop (n * 20) (writtenAfter n key s t)) ≡ key ++ (1 ∷ 0 ∷ 0 ∷ bytes4 s)
   written-here =
       ap (λ (l : List ℕ). take 20 (drop (n * 20) l)) written
       ∙ ap (λ (l : List ℕ). take 20 l) (drop-at (take (n * 20) t) (newRecord key s ++ drop ((n + 1) * 20) t) (n * 20) front)
