@@ -22,6 +22,7 @@ use Rattle.ringplan.proofs.Planning.{overlaid-drawn}
 use Rattle.rules.specs.Answer.{answerOf}
 use Rattle.rules.specs.Rules.{stateWith, worldWith, State, World, Change, Done, is, lentBar, admitted, judged, barred, effect, packet, end, pickBy, sizedFor, settled, eventOf, EventPromise}
 use Rattle.rules.proofs.Sizes.{right-sizes}
+use Rattle.rules.proofs.Still.{packet-still, end-still}
 use Rattle.engine.specs.declared.Lookup.{Lookup}
 use Rattle.answers.specs.declared.Reaction.{Reaction}
 use Rattle.answers.specs.Reacting.{reacted}
@@ -114,23 +115,6 @@ unfolding admitted lentBar judged
 redraw-sound true true e found p st q = refl
 redraw-sound true false e found p st q = clash q refl
 redraw-sound false rosterSound e found p st q = clash q refl
-
--- packets and ends draw no ring
-packet-still : (key : List ℕ) (found : Finding) (p : Pick) (st : State) → packet key found p st .redraw ≡ false
-unfolding packet
-packet-still key found p st =
-    both
-    (found .found)
-    (λ a. rw a)
-    (
-    λ a. both
-    (p .flag)
-    (λ b. both (ltb (found .reads) (room (st .table))) (λ d. rw (a, b, d)) (λ d. rw (a, b, d)))
-    (λ b. rw (a, b)))
-
-end-still : (found : Finding) (st : State) → end found st .redraw ≡ false
-unfolding end
-end-still found st = both (found .found) (λ a. rw a) (λ a. rw a)
 
 -- a roster of at most 64 servers stays one
 added-few : (s : ℕ) (r : Roster) → r .held ≤ 64 → addedHorizon s r .held ≤ 64

@@ -11,3 +11,4 @@ pub mod Keeping
 pub mod Changing
 pub mod Along
 pub mod Never
+pub mod Did

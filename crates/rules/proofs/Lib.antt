@@ -2,3 +2,4 @@ pub mod Apart
 pub mod Unique
 pub mod Refusals
 pub mod Sizes
+pub mod Still

@@ -1,0 +1,26 @@
+-- Packets and ends draw no ring.
+use mathlib.Core.Bool.{false}
+use mathlib.Core.List.{List}
+use mathlib.Core.Path.{_≡_}
+use Prim.Native.Nat.{ℕ}
+use lib.Dec.{ltb}
+use Rattle.sets.proofs.Cases.{both}
+use Rattle.ranking.specs.declared.Pick.{Pick}
+use Rattle.table.specs.Table.{Finding, room}
+use Rattle.rules.specs.Rules.{State, packet, end}
+
+pub packet-still : (key : List ℕ) (found : Finding) (p : Pick) (st : State) → packet key found p st .redraw ≡ false
+unfolding packet
+packet-still key found p st =
+    both
+    (found .found)
+    (λ a. rw a)
+    (
+    λ a. both
+    (p .flag)
+    (λ b. both (ltb (found .reads) (room (st .table))) (λ d. rw (a, b, d)) (λ d. rw (a, b, d)))
+    (λ b. rw (a, b)))
+
+pub end-still : (found : Finding) (st : State) → end found st .redraw ≡ false
+unfolding end
+end-still found st = both (found .found) (λ a. rw a) (λ a. rw a)
