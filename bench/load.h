@@ -1,4 +1,4 @@
-/* What twin.c and recordall.c are run on: the generator that crates/bench/src/keys.rt states, the words, the checksum, and
+/* What twin.c and recordall.c are run on: the generator that crates/program_bench/src/keys.rt states, the words, the checksum, and
  * the lines. Goes behind parts.h or engine.h. */
 
 enum { MOST_KEYS = 100000, MOST_SERVERS = 64 };

@@ -1,5 +1,5 @@
 #!/usr/bin/env python3
-"""What a reader of the demands has to believe: the definitions that the statements of crates/demands/specs cite, and all that those cite.
+"""What a reader of the demands has to believe: the definitions that the statements of crates/claims_demands/specs cite, and all that those cite.
 
 Prints the lines that stand in docs/DEMANDS.md between `believed: begin` and `believed: end`; with --check compares them.
 It reads the `use` lines: a file of specs/ counts whole, a declared type is a struct or an enum of src/.
@@ -61,7 +61,7 @@ def order():
 
 def listing():
     place = order()
-    roots = [s for s in all_specs() if s[0] == "demands"]
+    roots = [s for s in all_specs() if s[0] == "claims_demands"]
     files, types = closure(roots)
     out = ["| crate | definitions, with their lines | declared types (src) |", "|---|---|---|"]
     for crate in sorted({c for c, _ in files} | {c for c, _ in types}, key=place):

@@ -2,8 +2,8 @@
 """What the program `figures` must print, worked out from the sentences of document 01; and the tables of docs/FIGURES.md,
 made of the program's stored output.
 
-    python3 tests/figures.py figures | cmp - crates/figures/stdout
-    python3 tests/figures.py tables < crates/figures/stdout
+    python3 tests/figures.py figures | cmp - crates/program_figures/stdout
+    python3 tests/figures.py tables < crates/program_figures/stdout
 
 The hashes and rankings are those of tests/independent.py. Nothing here runs or reads the Rattle code.
 """

@@ -1,12 +1,12 @@
 #!/usr/bin/env python3
 """What the programs `cases`, `vectors` and `bench` must print, worked out from the sentences of document 01.
 
-    python3 tests/independent.py cases   | cmp - crates/cases/stdout
-    python3 tests/independent.py vectors | cmp - crates/vectors/stdout
-    python3 tests/independent.py bench   | cmp - crates/bench/stdout
+    python3 tests/independent.py cases   | cmp - crates/test_cases/stdout
+    python3 tests/independent.py vectors | cmp - crates/test_vectors/stdout
+    python3 tests/independent.py bench   | cmp - crates/program_bench/stdout
     python3 tests/independent.py bench METHOD SERVERS HORIZON RECORDS PACKETS CHANGES
 
-It reads the cases, crates/NAME/stdin (of `bench` crates/bench/args), and nothing else: every rule below
+It reads the cases, crates/NAME/stdin (of `bench` crates/program_bench/args), and nothing else: every rule below
 stands under the sentence that it was written from. Nothing here runs or reads the Rattle code.
 """
 import os
@@ -559,7 +559,7 @@ class Balancer:
 
 
 class Load:
-    """The program's stated generator and its checksum (the head of crates/bench/src/keys.rt states them)."""
+    """The program's stated generator and its checksum (the head of crates/program_bench/src/keys.rt states them)."""
 
     def __init__(self):
         self.x, self.sum, self.used, self.keys, self.refused = 1, 0, 0, 0, 0
@@ -594,7 +594,7 @@ def bench():
     words = sys.argv[2:]
     if not words:
         here = os.path.dirname(os.path.dirname(os.path.abspath(__file__)))
-        with open(os.path.join(here, "crates", "bench", "args")) as f:
+        with open(os.path.join(here, "crates", "program_bench", "args")) as f:
             words = f.read().split()
     method, servers, horizon, records, packets, changes = map(int, words)
     b, load = Balancer(method, 4096), Load()

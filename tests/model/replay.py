@@ -1,7 +1,7 @@
 """The program `replay` on the model: what it reads, and what it has to print.
 
-    python3 replay.py text > ../../crates/replay/stdin            its own stream, then the cases of lent_program.py
-    python3 replay.py lines > ../../crates/replay/stdout
+    python3 replay.py text > ../../crates/test_replay/stdin            its own stream, then the cases of lent_program.py
+    python3 replay.py lines > ../../crates/test_replay/stdout
     python3 replay.py text EVENTS; python3 replay.py lines EVENTS     the same for a file of event records
 
 A stream's text: "start=", which starts on a table of 3,276 records where all is zeros, then a line for each event: its number
