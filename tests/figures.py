@@ -8,7 +8,11 @@ made of the program's stored output.
 The hashes and rankings are those of tests/independent.py. Nothing here runs or reads the Rattle code.
 """
 import bisect
+import contextlib
+import functools
+import io
 import math
+import multiprocessing
 import sys
 
 import independent
@@ -18,6 +22,10 @@ KEYS, PLACES = 20000, 3276
 SIZES = (8, 16, 32, 64)
 SETS = ((8, 1), (8, 2), (8, 4), (8, 8), (14, 2), (16, 4), (32, 1), (32, 8))
 HEAD = "spread working horizon draws method rows fewest most none recorded low high"
+ROTATIONS, DRAWS = 20, 10
+TURNING = ((15, 1), (14, 2), (12, 4))
+LIVE = 3000
+FULL = ((14, 2, 24954), (14, 2, 26208), (14, 2, 28000), (14, 2, 30000))
 
 
 class Stream:
@@ -34,11 +42,12 @@ class Stream:
         return bytes(out)
 
 
-def key_points():
-    """F of 20,000 keys, each the next 13 bytes of the stream that starts at 1."""
+@functools.lru_cache(1)
+def key_points(n):
+    """F of n keys, each the next 13 bytes of the stream that starts at 1."""
     stream = Stream(1)
-    keys = [stream.bytes(13) for _ in range(KEYS)]
-    assert len(set(keys)) == KEYS
+    keys = [stream.bytes(13) for _ in range(n)]
+    assert len(set(keys)) == n
     return [F(k) for k in keys]
 
 
@@ -104,17 +113,114 @@ def lines(points, spread, working, horizon, draws, ring_draws):
                 keys[c] += 1
             loads += keys.values()
             recorded.append(sum(flag for _, flag in picks))
-        print(spread, working, horizon, times, method, rows, min(loads), max(loads), loads.count(0), sum(recorded),
+        print("case", spread, working, horizon, times, method, rows, min(loads), max(loads), loads.count(0), sum(recorded),
               min(recorded), max(recorded))
 
 
+def keys_lines(points, spread, n):
+    """How many keys each of n servers gets, by each method, servers in rising order."""
+    servers = drawn(Stream(2), n) if spread else list(range(1, n + 1))
+    for method, rows, by in WAYS[:3]:
+        chosen = [c for c, _ in by(points, servers, [])]
+        print("keys", spread, n, method, rows, *(chosen.count(s) for s in servers))
+
+
+# ---------------------------------------------------------------------- a front door under HRW, packet by packet
+
+class Door:
+    """"if the key has a record, its server. Otherwise the choice over the working set"; "recorded where there is room".
+    A session is known by its number, a mover by its place. "Moved" are sessions led elsewhere although their last mover works."""
+
+    def __init__(self, points, servers, working):
+        self.works = [place < working for place in range(len(servers))]
+        self.ranked = [ranking(servers, p % 2**31) for p in points]
+        self.records, self.last, self.no_room = {}, [None] * len(points), 0
+
+    def round(self):
+        """Each session sends a packet, in turn; how many moved."""
+        moved = self.no_room = 0
+        for i, ranked in enumerate(self.ranked):
+            place = self.records.get(i)
+            if place is None:
+                place = next(s for s in ranked if self.works[s])
+                if place != ranked[0]:
+                    self.record(i, place)
+            moved += self.last[i] not in (None, place) and self.works[self.last[i]]
+            self.last[i] = place
+        return moved
+
+    def record(self, session, place):
+        if len(self.records) < PLACES:
+            self.records[session] = place
+        else:
+            self.no_room += 1
+
+    def join(self, place):
+        self.works[place] = True
+
+    def leave(self, place):
+        """"Remove working takes away every record naming that server." """
+        self.works[place] = False
+        self.records = {i: p for i, p in self.records.items() if p != place}
+
+
+def ranking(servers, digest):
+    """The places of the servers, "a higher weight outranks"; no two weights are equal."""
+    weights = [independent.weight(s, digest) for s in servers]
+    return sorted(range(len(servers)), key=weights.__getitem__, reverse=True)
+
+
+def turned(points, servers, working):
+    """Rotation by rotation the mover that stood by longest joins, and then the one that worked longest leaves work.
+    How many records are used and how many sessions moved, at first and after each rotation."""
+    door, n = Door(points, servers, working), len(servers)
+    out = [(door.round(), len(door.records))]
+    for k in range(ROTATIONS):
+        door.join((working + k) % n)
+        door.leave(k % n)
+        out.append((door.round(), len(door.records)))
+    return out
+
+
+def rotation_lines(points, working, horizon):
+    """A line for each rotation, over all draws: used records in all, in the lowest draw and in the highest; sessions that moved."""
+    stream = Stream(2)
+    draws = [turned(points, drawn(stream, working + horizon), working) for _ in range(DRAWS)]
+    for k, each in enumerate(zip(*draws)):
+        used = [u for _, u in each]
+        print("rotation", working, horizon, len(points), DRAWS, k, sum(used), min(used), max(used), sum(m for m, _ in each))
+
+
+def full_line(points, working, horizon):
+    """Each session sends a packet; then one standby after the other joins, and each session sends a packet again."""
+    door = Door(points, drawn(Stream(2), working + horizon), working)
+    door.round()
+    out = [len(door.records), door.no_room]
+    for place in range(working, working + horizon):
+        door.join(place)
+        out.append(door.round())
+    print("full", working, horizon, len(points), *out)
+
+
+def printed(job):
+    """What a job prints."""
+    name, keys, words = job
+    out = io.StringIO()
+    with contextlib.redirect_stdout(out):
+        globals()[name](key_points(keys), *words)
+    return out.getvalue()
+
+
 def figures():
-    points = key_points()
-    for spread in (1, 0):
-        for n in SIZES:
-            lines(points, spread, n, 0, 1, 1)
-    for working, horizon in SETS:
-        lines(points, 1, working, horizon, 10, 100)
+    """All lines, worked out on every core."""
+    jobs = [("lines", KEYS, (spread, n, 0, 1, 1)) for spread in (1, 0) for n in SIZES]
+    jobs += [("lines", KEYS, (1, working, horizon, 10, 100)) for working, horizon in SETS]
+    jobs += [("keys_lines", KEYS, (spread, 16)) for spread in (1, 0)]
+    jobs += [("rotation_lines", LIVE, sets) for sets in TURNING]
+    jobs += [("full_line", live, sets) for *sets, live in FULL]
+    with multiprocessing.Pool() as pool:
+        for text in pool.imap(printed, jobs):
+            sys.stdout.write(text)
 
 
 # ---------------------------------------------------------------------------------------- tables
@@ -148,7 +254,7 @@ def sessions(share, whole, places):
 
 
 def tables():
-    found = [dict(zip(HEAD.split(), r.split())) for r in sys.stdin]
+    found = [dict(zip(HEAD.split(), r.split()[1:])) for r in sys.stdin if r.startswith("case ")]
     groups = [found[i:i + len(WAYS)] for i in range(0, len(found), len(WAYS))]
     print("| numbers | servers | even share | HRW | ring | 4,096 rows | 256 rows |")
     print("|---|---|---|---|---|---|---|")

@@ -489,7 +489,7 @@ def method_lines(lines):
 
 def cases():
     """A word with a capital letter is no step."""
-    rosters, tables, methods = sections("cases")
+    rosters, tables, methods = sections("test_cases")
     for text in rosters:
         roster_line(text)
     buffer, size = bytearray(b"\xff" * 65540), 0
@@ -502,7 +502,7 @@ def cases():
 
 def vectors():
     """The FNV authors' strings: in quotation marks, with \\0 for a zero byte and \\n for a line end."""
-    for text in sections("vectors")[0]:
+    for text in sections("test_vectors")[0]:
         data = text[1:-1].encode().replace(b"\\0", b"\0").replace(b"\\n", b"\n")
         line(f"{text} {F(data):08x}")
 

@@ -16,6 +16,7 @@ struct Case {
 
 // The beginning of a case's line.
 fn show(c: Case) {
+    say::word(b"case");
     say::three(c.spread, c.working, c.horizon);
     say::three(c.draws, c.method, c.rows as u32);
 }

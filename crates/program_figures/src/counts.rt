@@ -2,8 +2,8 @@
 use ranking::Pick;
 use ring::Entry;
 
-// The place of a server.
-fn place_of(servers: &[u32], server: u32) -> usize {
+// The place of a server; the number of servers where it is none of them.
+pub(crate) fn place_of(servers: &[u32], server: u32) -> usize {
     let mut i = 0;
     while i < servers.len() {
         if servers[i] == server {

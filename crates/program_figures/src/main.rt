@@ -1,19 +1,48 @@
-// Figures for the planner: how evenly each method spreads 20,000 keys over its servers, and how many of them it records.
-// A line for each case: whether the server numbers are spread (1) or consecutive (0), how many work and how many are in
-// the horizon, how often numbers were drawn, method and row count; then the fewest and the most keys that a working server
-// got, how often one got none, and the recorded keys of all draws, of the lowest and of the highest. docs/FIGURES.md says
-// what it means. What must be printed stands in the file stdout, worked out from document 01.
+// Figures for the planner, each kind with its own word in front; docs/FIGURES.md says what they mean, and the file stdout, worked out
+// from document 01, what must be printed.
+//     case      how evenly a method spreads 20,000 keys over its servers, and how many of them it records: whether the server numbers are
+//               spread (1) or consecutive (0), how many work and how many are in the horizon, how often numbers were drawn, method and
+//               row count; the fewest and the most keys that a working server got, how often one got none, and the recorded keys of all
+//               draws, of the lowest and of the highest
+//     keys      the keys of each of 16 servers
+//     rotation  records used while 16 movers take turns
+//     full      sessions that find no room, and how many of them are led elsewhere as standbys join
 mod cases;
 mod counts;
+mod door;
+mod full;
 mod keys;
 mod numbers;
 mod ranges;
+mod rotations;
 mod say;
+mod shares;
 
-fn main() {
+// What every key of a fixed number of them gets, by each method.
+fn over_keys() {
     let mut points = [0u32; 20000];
     keys::points(&mut points);
     cases::evenness(&points, 1);
     cases::evenness(&points, 0);
     cases::shares(&points);
+    shares::lines(&points, 1);
+    shares::lines(&points, 0);
+}
+
+// What sessions meet, packet by packet, at a table of 3,276 records.
+fn over_sessions() {
+    let mut table = [0u8; table::MOST_TABLE_BYTES];
+    let mut last = [0u32; 30000];
+    rotations::lines(&mut table, &mut last[0..3000], 15);
+    rotations::lines(&mut table, &mut last[0..3000], 14);
+    rotations::lines(&mut table, &mut last[0..3000], 12);
+    full::line(&mut table, &mut last[0..24954]);
+    full::line(&mut table, &mut last[0..26208]);
+    full::line(&mut table, &mut last[0..28000]);
+    full::line(&mut table, &mut last);
+}
+
+fn main() {
+    over_keys();
+    over_sessions();
 }

@@ -70,7 +70,6 @@ pub(crate) fn with_first(r: Range, counts: [u32; 65], n: usize) -> Range {
 // Keys of a working server: the fewest, the most, how often none; keys recorded: in all draws, in the lowest, in the highest.
 pub(crate) fn show(keys: Range, recorded: Range) {
     say::three(keys.low, keys.high, keys.none);
-    say::number(recorded.sum);
-    say::number(recorded.low);
-    say::last(recorded.high);
+    say::three(recorded.sum, recorded.low, recorded.high);
+    say::end();
 }

@@ -1,10 +1,10 @@
 // The rest of a line: the reply, and the digests of what was lent. A digest is FNV-1a 64 over the bytes that the model lays out
 // (tests/model/session.py), numbers big-endian.
-use test_byvalue::Tried;
 use libc::STDOUT_FILENO;
 use ring::Entry;
 use roster::Roster;
 use rules::Reply;
+use test_byvalue::Tried;
 
 // What a digest of no bytes is.
 const NOTHING: u64 = 14695981039346656037;

@@ -1,8 +1,8 @@
 // What is given beside the lent slices: an event, a ring, a roster, and how much of each buffer is lent.
-use test_byvalue::Tried;
 use ring::Entry;
 use roster::Roster;
 use settings::Settings;
+use test_byvalue::Tried;
 
 // The numbers are: how many bytes of the event, the table and the flags, and how many rows are lent; and what is done, 0 the event, 1 the
 // event with a ring of 63 entries, 2 a start.

@@ -3,9 +3,9 @@ ghost use Prim.Native.Nat.{_≤_};
 use crate::digests;
 use crate::given;
 use crate::given::Given;
-use test_byvalue::Tried;
 use ring::Entry;
 use roster::Roster;
+use test_byvalue::Tried;
 
 // 9 in every row.
 pub(crate) fn nines(rows: &mut [u32]) {

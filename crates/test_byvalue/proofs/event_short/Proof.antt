@@ -286,7 +286,7 @@ event-short-spec 𝓤 H 𝓜 𝓖 𝓡 =
     entered 𝓤 H (tripleOf 𝓤 H (𝓖 .A) event-short.signature (event-short.spec 𝓤 H (𝓖 .A) (𝓜 .mem) (𝓡 .run)))
     (tables 𝓤 H 𝓜 𝓡 code.env .C) (tables 𝓤 H 𝓜 𝓡 code.env .Λ) #byvalue·event-short code.function (code.unfolded 𝓤 H 𝓜 𝓡)
     (event-short-meets 𝓤 H (𝓖 .A) (givenOf 𝓤 H 𝓜 𝓖) (𝓜 .mem) (𝓡 .run) (tablesOf 𝓤 H 𝓜 (tables 𝓤 H 𝓜 𝓡 code.env))
-    (cited 𝓤 H (Short 𝓤 H (𝓖 .A) (𝓜 .mem) (𝓡 .run)) 𝓜 𝓡 code.env #byvalue·short-ring short-ring-def.routine code.calls-byvalue·short-ring
+    (cited 𝓤 H (Short 𝓤 H (𝓖 .A) (𝓜 .mem) (𝓡 .run)) 𝓜 𝓡 code.env #byvalue·short-ring short-ring-def.routine code.calls-test-byvalue·short-ring
     (short-ring-thm.met 𝓤 H 𝓜 𝓖 𝓡))
     (cited 𝓤 H (Event 𝓤 H (𝓖 .A) (𝓜 .mem) (𝓡 .run)) 𝓜 𝓡 code.env #balancer·event event-def.routine code.calls-balancer·event
     (event-thm.met 𝓤 H 𝓜 𝓖 𝓡)))
