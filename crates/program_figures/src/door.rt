@@ -6,7 +6,7 @@ use crate::numbers;
 use table::Found;
 
 // What a round of packets came to: sessions led elsewhere although their last mover works, and sessions that found no room.
-pub struct Round {
+pub struct Sent {
     pub moved: u32,
     pub no_room: u32,
 }
@@ -66,16 +66,16 @@ fn more_if(so: bool, n: u32) -> u32 {
 }
 
 // A round with one packet more, of a session that was at a mover before, or nowhere (0).
-fn with(r: Round, led: Led, before: u32, works: bool) -> Round {
-    Round {
+fn with(r: Sent, led: Led, before: u32, works: bool) -> Sent {
+    Sent {
         moved: more_if(works && before != led.server, r.moved),
         no_room: more_if(led.no_room, r.no_room),
     }
 }
 
 // Every session sends a packet; where each one went stands in `last`.
-pub(crate) fn round(table: &mut [u8], servers: &[u32], states: &[u8], last: &mut [u32]) -> Round {
-    let mut r = Round {
+pub(crate) fn round(table: &mut [u8], servers: &[u32], states: &[u8], last: &mut [u32]) -> Sent {
+    let mut r = Sent {
         moved: 0,
         no_room: 0,
     };

@@ -29,17 +29,33 @@ fn over_keys() {
     shares::lines(&points, 0);
 }
 
+// 3,000 sessions while 16 movers take turns, of which so many work at a time.
+fn turning(table: &mut [u8], last: &mut [u32], working: u32) {
+    if last.len() < 3000 {
+        return;
+    }
+    rotations::lines(table, &mut last[0..3000], working);
+}
+
+// So many sessions at a table that may be too small.
+fn filling(table: &mut [u8], last: &mut [u32], sessions: usize) {
+    if last.len() < sessions {
+        return;
+    }
+    full::line(table, &mut last[0..sessions]);
+}
+
 // What sessions meet, packet by packet, at a table of 3,276 records.
 fn over_sessions() {
     let mut table = [0u8; table::MOST_TABLE_BYTES];
     let mut last = [0u32; 30000];
-    rotations::lines(&mut table, &mut last[0..3000], 15);
-    rotations::lines(&mut table, &mut last[0..3000], 14);
-    rotations::lines(&mut table, &mut last[0..3000], 12);
-    full::line(&mut table, &mut last[0..24954]);
-    full::line(&mut table, &mut last[0..26208]);
-    full::line(&mut table, &mut last[0..28000]);
-    full::line(&mut table, &mut last);
+    turning(&mut table, &mut last, 15);
+    turning(&mut table, &mut last, 14);
+    turning(&mut table, &mut last, 12);
+    filling(&mut table, &mut last, 24954);
+    filling(&mut table, &mut last, 26208);
+    filling(&mut table, &mut last, 28000);
+    filling(&mut table, &mut last, 30000);
 }
 
 fn main() {

@@ -5,6 +5,8 @@ use crate::ranges;
 use crate::ranges::Range;
 use crate::say;
 
+// Movers held.
+const MOVERS: usize = 16;
 // How often numbers are drawn, and how often the movers rotate in a draw.
 const DRAWS: usize = 10;
 
@@ -42,12 +44,8 @@ fn over_draws(counts: &[u32], rotation: usize) -> Range {
 
 // A rotation, counted from 0: the mover that stood by longest joins, and then the one that worked longest leaves work.
 fn rotate(table: &mut [u8], servers: &[u32], states: &mut [u8], working: usize, rotation: usize) {
-    let n = servers.len();
-    if n == 0 {
-        return;
-    }
-    door::join(states, (working % n + rotation % n) % n);
-    door::leave(table, servers, states, rotation % n);
+    door::join(states, (working % MOVERS + rotation % MOVERS) % MOVERS);
+    door::leave(table, servers, states, rotation % MOVERS);
 }
 
 // One draw: a round of packets at first and after each rotation; used records and moves are noted.
@@ -74,8 +72,8 @@ fn turned(
 
 // All draws.
 fn drawn(table: &mut [u8], last: &mut [u32], used: &mut [u32], moved: &mut [u32], working: usize) {
-    let mut servers = [0u32; 16];
-    let mut states = [0u8; 16];
+    let mut servers = [0u32; MOVERS];
+    let mut states = [0u8; MOVERS];
     let mut x = numbers::start(1);
     let mut draw = 0;
     while draw < DRAWS {
