@@ -1,17 +1,15 @@
 #!/usr/bin/env python3
-"""What the program `figures` must print, worked out from the sentences of document 01; and the tables of docs/FIGURES.md,
-made of the program's stored output.
+"""What the program `program_figures` must print, worked out from the sentences of document 01.
 
-    python3 tests/figures.py figures | cmp - crates/program_figures/stdout
-    python3 tests/figures.py tables < crates/program_figures/stdout
+    python3 tests/figures.py | cmp - crates/program_figures/stdout
 
 The hashes and rankings are those of tests/independent.py. Nothing here runs or reads the Rattle code.
 """
 import bisect
+import collections
 import contextlib
 import functools
 import io
-import math
 import multiprocessing
 import sys
 
@@ -21,8 +19,7 @@ from independent import F, hrw_pick, ring_pick
 KEYS, PLACES = 20000, 3276
 SIZES = (8, 16, 32, 64)
 SETS = ((8, 1), (8, 2), (8, 4), (8, 8), (14, 2), (16, 4), (32, 1), (32, 8))
-HEAD = "spread working horizon draws method rows fewest most none recorded low high"
-ROTATIONS, DRAWS = 20, 10
+DRAWS, RING_DRAWS, ROTATIONS = 10, 100, 20
 TURNING = ((15, 1), (14, 2), (12, 4))
 LIVE = 3000
 FULL = ((14, 2, 24954), (14, 2, 26208), (14, 2, 28000), (14, 2, 30000))
@@ -99,30 +96,22 @@ WAYS = ((1, 0, by_hrw), (2, 0, by_ring), (3, 4096, by_rows(4096)), (3, 256, by_r
 
 # ----------------------------------------------------------------------------------------- lines
 
-def lines(points, spread, working, horizon, draws, ring_draws):
-    """A line for each method. The lowest numbers work, the others are in the horizon."""
-    n = working + horizon
-    for method, rows, by in WAYS:
-        stream, loads, recorded = Stream(2), [], []
-        times = ring_draws if method == 2 else draws
-        for _ in range(times):
-            servers = drawn(stream, n) if spread else list(range(1, n + 1))
-            picks = by(points, servers[:working], servers[working:])
-            keys = {s: 0 for s in servers[:working]}
-            for c, _ in picks:
-                keys[c] += 1
-            loads += keys.values()
-            recorded.append(sum(flag for _, flag in picks))
-        print("case", spread, working, horizon, times, method, rows, min(loads), max(loads), loads.count(0), sum(recorded),
-              min(recorded), max(recorded))
-
-
 def keys_lines(points, spread, n):
-    """How many keys each of n servers gets, by each method, servers in rising order."""
+    """A line for each method: how many keys each of n servers gets, servers in rising order."""
     servers = drawn(Stream(2), n) if spread else list(range(1, n + 1))
-    for method, rows, by in WAYS[:3]:
-        chosen = [c for c, _ in by(points, servers, [])]
-        print("keys", spread, n, method, rows, *(chosen.count(s) for s in servers))
+    for method, rows, by in WAYS:
+        chosen = collections.Counter(c for c, _ in by(points, servers, []))
+        print("keys", spread, n, method, rows, *(chosen[s] for s in servers))
+
+
+def share_lines(points, working, horizon):
+    """A line for each method: how many keys are recorded in each draw. The lowest numbers work, the others are in the horizon."""
+    for method, rows, by in WAYS:
+        stream, recorded = Stream(2), []
+        for _ in range(RING_DRAWS if method == 2 else DRAWS):
+            servers = drawn(stream, working + horizon)
+            recorded.append(sum(flag for _, flag in by(points, servers[:working], servers[working:])))
+        print("share", working, horizon, method, rows, *recorded)
 
 
 # ---------------------------------------------------------------------- a front door under HRW, packet by packet
@@ -172,23 +161,23 @@ def ranking(servers, digest):
 
 def turned(points, servers, working):
     """Rotation by rotation the mover that stood by longest joins, and then the one that worked longest leaves work.
-    How many records are used and how many sessions moved, at first and after each rotation."""
+    How many records are used at first and after each rotation, and how many sessions moved in all."""
     door, n = Door(points, servers, working), len(servers)
-    out = [(door.round(), len(door.records))]
+    moved, used = door.round(), [len(door.records)]
     for k in range(ROTATIONS):
         door.join((working + k) % n)
         door.leave(k % n)
-        out.append((door.round(), len(door.records)))
-    return out
+        moved += door.round()
+        used.append(len(door.records))
+    return used, moved
 
 
 def rotation_lines(points, working, horizon):
-    """A line for each rotation, over all draws: used records in all, in the lowest draw and in the highest; sessions that moved."""
+    """A line for each draw."""
     stream = Stream(2)
-    draws = [turned(points, drawn(stream, working + horizon), working) for _ in range(DRAWS)]
-    for k, each in enumerate(zip(*draws)):
-        used = [u for _, u in each]
-        print("rotation", working, horizon, len(points), DRAWS, k, sum(used), min(used), max(used), sum(m for m, _ in each))
+    for _ in range(DRAWS):
+        used, moved = turned(points, drawn(stream, working + horizon), working)
+        print("rotation", working, horizon, len(points), *used, moved)
 
 
 def full_line(points, working, horizon):
@@ -213,9 +202,8 @@ def printed(job):
 
 def figures():
     """All lines, worked out on every core."""
-    jobs = [("lines", KEYS, (spread, n, 0, 1, 1)) for spread in (1, 0) for n in SIZES]
-    jobs += [("lines", KEYS, (1, working, horizon, 10, 100)) for working, horizon in SETS]
-    jobs += [("keys_lines", KEYS, (spread, 16)) for spread in (1, 0)]
+    jobs = [("keys_lines", KEYS, (spread, n)) for spread in (1, 0) for n in SIZES]
+    jobs += [("share_lines", KEYS, sets) for sets in SETS]
     jobs += [("rotation_lines", LIVE, sets) for sets in TURNING]
     jobs += [("full_line", live, sets) for *sets, live in FULL]
     with multiprocessing.Pool() as pool:
@@ -223,60 +211,6 @@ def figures():
             sys.stdout.write(text)
 
 
-# ---------------------------------------------------------------------------------------- tables
-
-def tenths(part, whole):
-    """Per cent, rounded to tenths."""
-    n = (2000 * part + whole) // (2 * whole)
-    return f"{n // 10}.{n % 10}"
-
-
-def evenness_cell(f):
-    n = int(f["working"])
-    low, high, none = int(f["fewest"]), int(f["most"]), int(f["none"])
-    text = f"{low:,} to {high:,} ({tenths(low * n, KEYS)} to {tenths(high * n, KEYS)} %)"
-    return text + (f", {none} with none" if none else "")
-
-
-def share_cell(f):
-    mean = tenths(int(f["recorded"]), KEYS * int(f["draws"]))
-    return f"{mean} ({tenths(int(f['low']), KEYS)} to {tenths(int(f['high']), KEYS)})"
-
-
-def sessions(share, whole, places):
-    """The most sessions n whose mean number of records and three standard deviations fit: n p + 3 sqrt(n p (1 - p))."""
-    n = 0
-    while True:
-        mean, variance = (n + 1) * share, (n + 1) * share * (whole - share)
-        if mean + 3 * math.sqrt(variance) > places * whole:
-            return n
-        n += 1
-
-
-def tables():
-    found = [dict(zip(HEAD.split(), r.split()[1:])) for r in sys.stdin if r.startswith("case ")]
-    groups = [found[i:i + len(WAYS)] for i in range(0, len(found), len(WAYS))]
-    print("| numbers | servers | even share | HRW | ring | 4,096 rows | 256 rows |")
-    print("|---|---|---|---|---|---|---|")
-    for g in groups:
-        n = int(g[0]["working"])
-        if g[0]["horizon"] == "0":
-            numbers = "spread" if g[0]["spread"] == "1" else "consecutive"
-            print(f"| {numbers} | {n} | {KEYS / n:,g} | " + " | ".join(map(evenness_cell, g)) + " |")
-    print()
-    print("| working | horizon | theorem 4.2 | HRW | ring | 4,096 rows | 256 rows |")
-    print("|---|---|---|---|---|---|---|")
-    for g in groups:
-        w, h = int(g[0]["working"]), int(g[0]["horizon"])
-        if h:
-            print(f"| {w} | {h} | {tenths(h, w + h)} | " + " | ".join(map(share_cell, g)) + " |")
-    print()
-    print("| standbys : working | share | sessions on average | with the margin |")
-    print("|---|---|---|---|")
-    for w, h in ((32, 1), (16, 1), (8, 1), (14, 2), (13, 3), (8, 2), (8, 4), (8, 8)):
-        print(f"| {h} : {w} | {tenths(h, w + h)} % | {PLACES * (w + h) // h:,} | {sessions(h, w + h, PLACES):,} |")
-
-
 if __name__ == "__main__":
     independent.figures()
-    {"figures": figures, "tables": tables}[sys.argv[1]]()
+    figures()

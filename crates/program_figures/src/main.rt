@@ -1,32 +1,29 @@
-// Figures for the planner, each kind with its own word in front; docs/FIGURES.md says what they mean, and the file stdout, worked out
-// from document 01, what must be printed.
-//     case      how evenly a method spreads 20,000 keys over its servers, and how many of them it records: whether the server numbers are
-//               spread (1) or consecutive (0), how many work and how many are in the horizon, how often numbers were drawn, method and
-//               row count; the fewest and the most keys that a working server got, how often one got none, and the recorded keys of all
-//               draws, of the lowest and of the highest
-//     keys      the keys of each of 16 servers
-//     rotation  records used while 16 movers take turns
-//     full      sessions that find no room, and how many of them are led elsewhere as standbys join
-mod cases;
+// Figures for the planner, a line for each case; docs/FIGURES.md says what they mean, and the file stdout, worked out from document 01,
+// what must be printed.
+//     keys      20,000 keys, and how many of them each server gets: whether the server numbers are spread (1) or consecutive (0), how
+//               many servers work, method, row count; the keys of each
+//     share     the same keys: working, horizon, method, row count; how many are recorded, in each draw of server numbers
+//     rotation  sessions while 16 movers take turns: working, horizon, sessions; the used records at first and after each of 20
+//               rotations; how many sessions were led elsewhere although their mover worked
+//     full      sessions at a table of 3,276 records: working, horizon, sessions; used records, sessions that found no room; how many
+//               sessions were led elsewhere as one standby joined, and as the other did
 mod counts;
 mod door;
+mod evenness;
 mod full;
 mod keys;
 mod numbers;
-mod ranges;
 mod rotations;
 mod say;
 mod shares;
 
-// What every key of a fixed number of them gets, by each method.
+// What every one of 20,000 keys gets, by each method.
 fn over_keys() {
     let mut points = [0u32; 20000];
     keys::points(&mut points);
-    cases::evenness(&points, 1);
-    cases::evenness(&points, 0);
-    cases::shares(&points);
-    shares::lines(&points, 1);
-    shares::lines(&points, 0);
+    evenness::of(&points, 1);
+    evenness::of(&points, 0);
+    shares::all(&points);
 }
 
 // 3,000 sessions while 16 movers take turns, of which so many work at a time.

@@ -1,6 +1,5 @@
 // Server numbers in rising order, and their states, as the roster holds them.
 use crate::keys;
-use crate::ranges;
 
 // A number, and where the next one starts.
 struct Next {
@@ -38,6 +37,22 @@ pub(crate) fn start(spread: u32) -> u32 {
     0
 }
 
+// The lower of two numbers.
+fn lower(a: u32, b: u32) -> u32 {
+    if a < b {
+        return a;
+    }
+    b
+}
+
+// The higher of two numbers.
+fn higher(a: u32, b: u32) -> u32 {
+    if a < b {
+        return b;
+    }
+    a
+}
+
 // Puts one more number among the first n.
 fn put(servers: &mut [u32], n: usize, number: u32) {
     if servers.len() <= n {
@@ -47,8 +62,8 @@ fn put(servers: &mut [u32], n: usize, number: u32) {
     let mut i = 0;
     while i < n {
         let here = servers[i];
-        servers[i] = ranges::lower(here, carried);
-        carried = ranges::higher(here, carried);
+        servers[i] = lower(here, carried);
+        carried = higher(here, carried);
         i += 1;
     }
     servers[n] = carried;

@@ -1,32 +1,73 @@
-// How many keys each of 16 servers gets, by each method.
+// How many keys are recorded.
 use crate::counts;
 use crate::numbers;
 use crate::say;
 
-// The first 16 counts, and the line's end.
-fn show(counts: [u32; 65]) {
-    let mut i = 0;
-    while i < 16 {
-        say::number(counts[i]);
-        i += 1;
+// The method of a line, and its row count, which is 0 but for method 3; how often numbers are drawn.
+struct How {
+    method: u32,
+    rows: u16,
+    draws: u32,
+}
+
+// A line: working, horizon, method and row count; the recorded keys of each draw of spread numbers.
+fn line(points: &[u32], servers: &mut [u32], working: u32, how: How) {
+    let mut states = [0u8; 64];
+    numbers::states(&mut states, working as usize);
+    let held = say::low(servers.len());
+    say::word(b"share");
+    say::three(
+        working,
+        std::num::wrapping_sub_u32(held, working),
+        how.method,
+    );
+    say::number(how.rows as u32);
+    let mut x = numbers::start(1);
+    let mut n: u32 = 0;
+    while n < how.draws {
+        x = numbers::draw(servers, 1, x);
+        let counts = counts::by(how.method, how.rows, points, servers, &states);
+        say::number(counts[64]);
+        n += 1;
     }
     say::end();
 }
 
-// A method's line: spread or consecutive numbers, 16 servers, method, row count; the keys of each server in rising order.
-fn line(points: &[u32], servers: &[u32], spread: u32, method: u32, rows: u16) {
-    let states = [1u8; 16];
-    say::word(b"keys");
-    say::three(spread, 16, method);
-    say::number(rows as u32);
-    show(counts::by(method, rows, points, servers, &states));
+// How, by its parts.
+fn by(method: u32, rows: u16, draws: u32) -> How {
+    How {
+        method: method,
+        rows: rows,
+        draws: draws,
+    }
 }
 
-// A line for each method.
-pub(crate) fn lines(points: &[u32], spread: u32) {
-    let mut servers = [0u32; 16];
-    numbers::draw(&mut servers, spread, numbers::start(spread));
-    line(points, &servers, spread, 1, 0);
-    line(points, &servers, spread, 2, 0);
-    line(points, &servers, spread, 3, 4096);
+// Ten draws by each method, the third with 4,096 rows and with 256; a hundred under the ring.
+fn lines(points: &[u32], servers: &mut [u32], working: u32) {
+    line(points, servers, working, by(1, 0, 10));
+    line(points, servers, working, by(2, 0, 100));
+    line(points, servers, working, by(3, 4096, 10));
+    line(points, servers, working, by(3, 256, 10));
+}
+
+// So many working servers and so many in the horizon.
+fn of(points: &[u32], servers: &mut [u32], working: u32, horizon: u32) {
+    let n = working as usize + horizon as usize;
+    if servers.len() < n {
+        return;
+    }
+    lines(points, &mut servers[0..n], working);
+}
+
+// Several horizons.
+pub(crate) fn all(points: &[u32]) {
+    let mut servers = [0u32; 64];
+    of(points, &mut servers, 8, 1);
+    of(points, &mut servers, 8, 2);
+    of(points, &mut servers, 8, 4);
+    of(points, &mut servers, 8, 8);
+    of(points, &mut servers, 14, 2);
+    of(points, &mut servers, 16, 4);
+    of(points, &mut servers, 32, 1);
+    of(points, &mut servers, 32, 8);
 }
