@@ -285,6 +285,8 @@ def restart_with_fewer_standbys():
     assert not moved(first, again) and after[-1].used == PLACES
     asked = {i for i, line in enumerate(first) if taken(MANY[i], line.server, [3, 4])}
     assert marked(again, 3) == asked and again[-1].used == len(asked) < PLACES
+    last = run(roster(WORK, STAND), P, remove_working(3, 5) + remove_horizon(10, 5), P)[3]
+    assert marked(last, 1) and not moved(last, run(roster([1, 2, 4, 6, 7, 8], [3, 9]), P)[1]), "without a join, but with movers that stopped"
 
 
 @says("A lost end can be sent late", "A live one loses its record, as in a restart")
