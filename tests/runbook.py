@@ -13,6 +13,7 @@ import tempfile
 from collections import Counter, namedtuple
 
 HERE = os.path.dirname(os.path.abspath(__file__))
+sys.dont_write_bytecode = True       # the checkout stays as it is
 sys.path.insert(0, os.path.join(HERE, "model"))
 import model  # noqa: E402
 import session  # noqa: E402
