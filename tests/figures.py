@@ -20,8 +20,7 @@ KEYS, PLACES = 20000, 3276
 SIZES = (8, 16, 32, 64)
 SETS = ((8, 1), (8, 2), (8, 4), (8, 8), (14, 2), (16, 4), (32, 1), (32, 8))
 DRAWS, RING_DRAWS, ROTATIONS = 10, 100, 20
-TURNING = ((15, 1), (14, 2), (12, 4))
-LIVE = 3000
+TURNING = ((3000, 15, 1, 10), (3000, 14, 2, 10), (3000, 12, 4, 10), (8000, 15, 1, 1))
 FULL = ((14, 2, 24954), (14, 2, 26208), (14, 2, 28000), (14, 2, 30000))
 
 
@@ -172,10 +171,10 @@ def turned(points, servers, working):
     return used, moved
 
 
-def rotation_lines(points, working, horizon):
+def rotation_lines(points, working, horizon, draws):
     """A line for each draw."""
     stream = Stream(2)
-    for _ in range(DRAWS):
+    for _ in range(draws):
         used, moved = turned(points, drawn(stream, working + horizon), working)
         print("rotation", working, horizon, len(points), *used, moved)
 
@@ -204,7 +203,7 @@ def figures():
     """All lines, worked out on every core."""
     jobs = [("keys_lines", KEYS, (spread, n)) for spread in (1, 0) for n in SIZES]
     jobs += [("share_lines", KEYS, sets) for sets in SETS]
-    jobs += [("rotation_lines", LIVE, sets) for sets in TURNING]
+    jobs += [("rotation_lines", live, words) for live, *words in TURNING]
     jobs += [("full_line", live, sets) for *sets, live in FULL]
     with multiprocessing.Pool() as pool:
         for text in pool.imap(printed, jobs):

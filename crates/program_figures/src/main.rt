@@ -26,12 +26,12 @@ fn over_keys() {
     shares::all(&points);
 }
 
-// 3,000 sessions while 16 movers take turns, of which so many work at a time.
-fn turning(table: &mut [u8], last: &mut [u32], working: u32) {
-    if last.len() < 3000 {
+// So many sessions while 16 movers take turns, of which so many work at a time.
+fn turning(table: &mut [u8], last: &mut [u32], sessions: usize, working: u32, draws: u32) {
+    if last.len() < sessions {
         return;
     }
-    rotations::lines(table, &mut last[0..3000], working);
+    rotations::lines(table, &mut last[0..sessions], working, draws);
 }
 
 // So many sessions at a table that may be too small.
@@ -46,9 +46,10 @@ fn filling(table: &mut [u8], last: &mut [u32], sessions: usize) {
 fn over_sessions() {
     let mut table = [0u8; table::MOST_TABLE_BYTES];
     let mut last = [0u32; 30000];
-    turning(&mut table, &mut last, 15);
-    turning(&mut table, &mut last, 14);
-    turning(&mut table, &mut last, 12);
+    turning(&mut table, &mut last, 3000, 15, 10);
+    turning(&mut table, &mut last, 3000, 14, 10);
+    turning(&mut table, &mut last, 3000, 12, 10);
+    turning(&mut table, &mut last, 8000, 15, 1);
     filling(&mut table, &mut last, 24954);
     filling(&mut table, &mut last, 26208);
     filling(&mut table, &mut last, 28000);

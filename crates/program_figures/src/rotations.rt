@@ -36,12 +36,12 @@ fn line(table: &mut [u8], servers: &[u32], last: &mut [u32], working: u32) {
     say::end();
 }
 
-// A line for each of ten draws of 16 movers, of which so many work, and the others stand by.
-pub(crate) fn lines(table: &mut [u8], last: &mut [u32], working: u32) {
+// A line for each draw of 16 movers, of which so many work, and the others stand by.
+pub(crate) fn lines(table: &mut [u8], last: &mut [u32], working: u32, draws: u32) {
     let mut servers = [0u32; MOVERS];
     let mut x = numbers::start(1);
     let mut draw: u32 = 0;
-    while draw < 10 {
+    while draw < draws {
         x = numbers::draw(&mut servers, 1, x);
         line(table, &servers, last, working);
         draw += 1;

@@ -6,11 +6,11 @@ use Rattle.program_figures.proofs.rotations.lines.Statement.{statement}
 use Rattle.program_figures.proofs.rotations.lines.Tie as tie
 
 abbrev Inv-loop : tie.InvT-loop
-Inv-loop table₀ last₀ working servers₀ x₀ draw₀ table last servers x draw =
-    (draw ≤ 10) × (length table ≡ length table₀) × (length last ≡ length last₀) × (length servers ≡ 16)
+Inv-loop table₀ last₀ working draws servers₀ x₀ draw₀ table last servers x draw =
+    (draw ≤ draws) × (length table ≡ length table₀) × (length last ≡ length last₀) × (length servers ≡ 16)
 
 abbrev μ-loop : tie.MeasureT-loop
-μ-loop table₀ last₀ working servers₀ x₀ draw₀ table last servers x draw = 10 - draw
+μ-loop table₀ last₀ working draws servers₀ x₀ draw₀ table last servers x draw = draws - draw
 
 -- src/rotations.rt:42:9
 start-requires : tie.Need-start-requires Inv-loop μ-loop
