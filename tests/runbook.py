@@ -297,6 +297,22 @@ def late_end_of_a_live_session():
     assert moved(before, after) == {i for i in marked(before, 1) if choice(K[i], WORK + [9]) != before[i].server} != set()
 
 
+@says("Two front doors that share the sessions by their keys and get every event of a mover have twice the places and lead each session as one does")
+def two_front_doors():
+    doors = [slice(0, None, 2), slice(1, None, 2)]
+    day = add_working(9), remove_working(3), add_working(10)
+    for part in doors:
+        mine, its = P[part], [x for change in day for x in (change, P[part])]
+        one = run(roster(WORK, STAND), P, *[x for change in day for x in (change, P)])[1::2]
+        for got, want in zip(run(roster(WORK, STAND), mine, *its)[1::2], one):
+            assert [(a.server, a.mark) for a in got] == [(b.server, b.mark) for b in want[part]]
+    first = full()[0]
+    assert marked(first, 4)
+    for part in doors:
+        got = run(roster([1, 2], [3, 4, 5, 6]), packets(MANY[part]))[1]
+        assert servers(got) == servers(first[part]) and not marked(got, 4)
+
+
 # ---- movers that stop
 
 @says("No other session moves (proved: demand 3, with mark 4 choice-part)",
