@@ -19,9 +19,9 @@ from independent import F, hrw_pick, ring_pick
 KEYS, PLACES = 20000, 3276
 SIZES = (8, 16, 32, 64)
 SETS = ((8, 1), (8, 2), (8, 4), (8, 8), (14, 2), (16, 4), (32, 1), (32, 8))
-DRAWS, RING_DRAWS, ROTATIONS = 10, 100, 20
+DRAWS, RING_DRAWS, TURNS = 10, 100, 20
 TURNING = ((3000, 15, 1, 10), (3000, 14, 2, 10), (3000, 12, 4, 10), (8000, 15, 1, 1))
-FULL = ((14, 2, 24954), (14, 2, 26208), (14, 2, 28000), (14, 2, 30000))
+JOINING = ((14, 2, 24954), (14, 2, 26208), (14, 2, 28000), (14, 2, 30000))
 
 
 class Stream:
@@ -158,36 +158,35 @@ def ranking(servers, digest):
     return sorted(range(len(servers)), key=weights.__getitem__, reverse=True)
 
 
-def turned(points, servers, working):
-    """Rotation by rotation the mover that stood by longest joins, and then the one that worked longest leaves work.
-    How many records are used at first and after each rotation, and how many sessions moved in all."""
-    door, n = Door(points, servers, working), len(servers)
-    moved, used = door.round(), [len(door.records)]
-    for k in range(ROTATIONS):
-        door.join((working + k) % n)
-        door.leave(k % n)
-        moved += door.round()
-        used.append(len(door.records))
-    return used, moved
+def rounds(door, changes):
+    """A round of packets, and one behind each change: used records, sessions that found no room, sessions that moved, each time."""
+    out = []
+    for change in (lambda: None, *changes):
+        change()
+        moved = door.round()
+        out += len(door.records), door.no_room, moved
+    return out
 
 
-def rotation_lines(points, working, horizon, draws):
-    """A line for each draw."""
-    stream = Stream(2)
+def turns_lines(points, working, horizon, draws):
+    """A line for each draw. In a turn the mover that stood by longest joins, and then the one that worked longest leaves work."""
+    stream, n, seen = Stream(2), working + horizon, set()
     for _ in range(draws):
-        used, moved = turned(points, drawn(stream, working + horizon), working)
-        print("rotation", working, horizon, len(points), *used, moved)
+        servers = drawn(stream, n)
+        assert not seen & set(servers)
+        seen |= set(servers)
+        door = Door(points, servers, working)
+
+        def turn(k):
+            door.join((working + k) % n)
+            door.leave(k % n)
+        print("turns", working, horizon, len(points), *rounds(door, [functools.partial(turn, k) for k in range(TURNS)]))
 
 
-def full_line(points, working, horizon):
-    """Each session sends a packet; then one standby after the other joins, and each session sends a packet again."""
+def joins_line(points, working, horizon):
+    """One standby after the other joins, and nobody leaves."""
     door = Door(points, drawn(Stream(2), working + horizon), working)
-    door.round()
-    out = [len(door.records), door.no_room]
-    for place in range(working, working + horizon):
-        door.join(place)
-        out.append(door.round())
-    print("full", working, horizon, len(points), *out)
+    print("joins", working, horizon, len(points), *rounds(door, [functools.partial(door.join, working + k) for k in range(horizon)]))
 
 
 def printed(job):
@@ -203,8 +202,8 @@ def figures():
     """All lines, worked out on every core."""
     jobs = [("keys_lines", KEYS, (spread, n)) for spread in (1, 0) for n in SIZES]
     jobs += [("share_lines", KEYS, sets) for sets in SETS]
-    jobs += [("rotation_lines", live, words) for live, *words in TURNING]
-    jobs += [("full_line", live, sets) for *sets, live in FULL]
+    jobs += [("turns_lines", live, words) for live, *words in TURNING]
+    jobs += [("joins_line", live, sets) for *sets, live in JOINING]
     with multiprocessing.Pool() as pool:
         for text in pool.imap(printed, jobs):
             sys.stdout.write(text)

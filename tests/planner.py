@@ -18,7 +18,7 @@ WAYS = ((1, 0), (2, 0), (3, 4096), (3, 256))
 def stored():
     """The stored output: numbers by the words and numbers that a line begins with."""
     out = {}
-    head = {"keys": 4, "share": 4, "rotation": 3, "full": 3}
+    head = {"keys": 4, "share": 4, "turns": 3, "joins": 3}
     for line in open(os.path.join(ROOT, "crates", "program_figures", "stdout"), encoding="utf-8"):
         name, *words = line.split()
         numbers = list(map(int, words))
@@ -119,7 +119,7 @@ def sizes():
 
 def turned(working, k):
     """Used records after k rotations: mean, lowest and highest of the draws."""
-    used = [line[k] for line in FOUND["rotation", working, MOVERS - working, 3000]]
+    used = [line[3 * k] for line in FOUND["turns", working, MOVERS - working, 3000]]
     return f"{sum(used) / len(used):,.0f} ({min(used):,} to {max(used):,})"
 
 
@@ -140,8 +140,8 @@ def rotation_sizes():
 
 def full():
     rows = []
-    for name, w, h, live in [key for key in FOUND if key[0] == "full"]:
-        used, no_room, first, second = FOUND[name, w, h, live][0]
+    for name, w, h, live in [key for key in FOUND if key[0] == "joins"]:
+        _, no_room, _, _, _, first, _, _, second = FOUND[name, w, h, live][0]
         short = without(live, h / (w + h))
         rows.append((f"{live:,}", about(short), f"{no_room:,}", about(short * taken(w, h)), f"{first:,}", about(short / h * taken(w + 1, h - 1)),
                      f"{second:,}"))
@@ -158,7 +158,13 @@ def risks():
                   "packets with mark 4 in four hours", "tapes mounted twice at a join"), rows)
 
 
-TABLES = (evenness, shares, sizes, rotations, rotation_sizes, full, risks)
+def short():
+    line = FOUND["turns", 15, 1, 8000][0]
+    return table(("rotations", *range(8, 21)), [(name, *(f"{line[3 * k + i]:,}" for k in range(8, 21))) for i, name in
+                                                enumerate(("records used", "sessions without a place", "moved"))])
+
+
+TABLES = (evenness, shares, sizes, rotations, rotation_sizes, full, risks, short)
 
 
 def page(text):

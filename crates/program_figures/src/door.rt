@@ -2,7 +2,6 @@
 // turn, and movers join and leave between such rounds.
 use crate::counts;
 use crate::keys;
-use crate::numbers;
 use table::Found;
 
 // What a round of packets came to: sessions led elsewhere although their last mover works, and sessions that found no room.
@@ -93,32 +92,11 @@ pub(crate) fn round(table: &mut [u8], servers: &[u32], states: &[u8], last: &mut
     r
 }
 
-// Before the first packet: no record, no session at a mover, the first movers work.
-pub(crate) fn open(table: &mut [u8], states: &mut [u8], last: &mut [u32], working: usize) {
-    table::start(table);
-    numbers::states(states, working);
-    forget(last);
-}
-
-// No session is at a mover.
-fn forget(last: &mut [u32]) {
-    let mut i = 0;
-    while i < last.len() {
-        last[i] = 0;
-        i += 1;
-    }
-}
-
 // A state for the mover at a place.
-fn put(states: &mut [u8], place: usize, state: u8) {
+pub(crate) fn put(states: &mut [u8], place: usize, state: u8) {
     if place < states.len() {
         states[place] = state;
     }
-}
-
-// The mover at a place joins.
-pub(crate) fn join(states: &mut [u8], place: usize) {
-    put(states, place, 1);
 }
 
 // The mover at a place leaves work for the horizon, and every record that names it goes.

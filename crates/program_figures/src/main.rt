@@ -3,17 +3,16 @@
 //     keys      20,000 keys, and how many of them each server gets: whether the server numbers are spread (1) or consecutive (0), how
 //               many servers work, method, row count; the keys of each
 //     share     the same keys: working, horizon, method, row count; how many are recorded, in each draw of server numbers
-//     rotation  sessions while 16 movers take turns: working, horizon, sessions; the used records at first and after each of 20
-//               rotations; how many sessions were led elsewhere although their mover worked
-//     full      sessions at a table of 3,276 records: working, horizon, sessions; used records, sessions that found no room; how many
-//               sessions were led elsewhere as one standby joined, and as the other did
+//     turns     sessions while 16 movers take turns: working, horizon, sessions; then three numbers for the first round of packets and
+//               for the one after each of 20 turns: records used, sessions that found no room, sessions led elsewhere although
+//               their mover worked
+//     joins     the same, with one standby joining after the other and nobody leaving
 mod counts;
 mod door;
 mod evenness;
-mod full;
 mod keys;
 mod numbers;
-mod rotations;
+mod rounds;
 mod say;
 mod shares;
 
@@ -26,34 +25,23 @@ fn over_keys() {
     shares::all(&points);
 }
 
-// So many sessions while 16 movers take turns, of which so many work at a time.
-fn turning(table: &mut [u8], last: &mut [u32], sessions: usize, working: u32, draws: u32) {
-    if last.len() < sessions {
-        return;
-    }
-    rotations::lines(table, &mut last[0..sessions], working, draws);
-}
-
-// So many sessions at a table that may be too small.
-fn filling(table: &mut [u8], last: &mut [u32], sessions: usize) {
-    if last.len() < sessions {
-        return;
-    }
-    full::line(table, &mut last[0..sessions]);
-}
-
 // What sessions meet, packet by packet, at a table of 3,276 records.
 fn over_sessions() {
     let mut table = [0u8; table::MOST_TABLE_BYTES];
-    let mut last = [0u32; 30000];
-    turning(&mut table, &mut last, 3000, 15, 10);
-    turning(&mut table, &mut last, 3000, 14, 10);
-    turning(&mut table, &mut last, 3000, 12, 10);
-    turning(&mut table, &mut last, 8000, 15, 1);
-    filling(&mut table, &mut last, 24954);
-    filling(&mut table, &mut last, 26208);
-    filling(&mut table, &mut last, 28000);
-    filling(&mut table, &mut last, 30000);
+    let mut few = [0u32; 3000];
+    let mut more = [0u32; 8000];
+    rounds::turns(&mut table, &mut few, 15, 10);
+    rounds::turns(&mut table, &mut few, 14, 10);
+    rounds::turns(&mut table, &mut few, 12, 10);
+    rounds::turns(&mut table, &mut more, 15, 1);
+    let mut margin = [0u32; 24954];
+    let mut mean = [0u32; 26208];
+    let mut above = [0u32; 28000];
+    let mut most = [0u32; 30000];
+    rounds::joins(&mut table, &mut margin);
+    rounds::joins(&mut table, &mut mean);
+    rounds::joins(&mut table, &mut above);
+    rounds::joins(&mut table, &mut most);
 }
 
 fn main() {
