@@ -37,7 +37,7 @@ def tenths(part, whole):
 
 
 def table(head, rows):
-    return ["| " + " | ".join(head) + " |", "|---" * len(head) + "|"] + ["| " + " | ".join(map(str, r)) + " |" for r in rows]
+    return ["| " + " | ".join(map(str, head)) + " |", "|---" * len(head) + "|"] + ["| " + " | ".join(map(str, r)) + " |" for r in rows]
 
 
 # ------------------------------------------------------------------------------- formulas
