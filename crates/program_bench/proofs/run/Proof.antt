@@ -1,4 +1,4 @@
--- `bench::run` meets its contract: its MIR is followed statement by statement, from what the parameters own to what the contract says.
+-- `program_bench::run` meets its contract: its MIR is followed statement by statement, from what the parameters own to what the contract says.
 -- A loop, whose turn writes an event, does it and hears the reply.
 use mathlib.Core.Path.{_≡_, refl, sym, _∙_, ap, subst}
 use Prim.Native.Nat.{ℕ, _+_, _-_, _≤_, _<_, _^_, zero-le}

@@ -1,4 +1,4 @@
--- `session::run` meets its contract: its MIR is followed statement by statement, from what the parameters own to what the contract says.
+-- `program_session::run` meets its contract: its MIR is followed statement by statement, from what the parameters own to what the contract says.
 -- A loop, whose turn does a record, answers it and finds the next.
 use mathlib.Core.Path.{_≡_, refl, sym, _∙_, ap, subst}
 use Prim.Native.Nat.{ℕ, _+_, _-_, _≤_, _<_, _^_}

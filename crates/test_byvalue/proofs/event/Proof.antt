@@ -1,4 +1,4 @@
--- `byvalue::event` meets its contract: its MIR is followed statement by statement, from what the parameters own to what the contract says.
+-- `test_byvalue::event` meets its contract: its MIR is followed statement by statement, from what the parameters own to what the contract says.
 -- The ring is copied to a local, lent for the call, and handed back as a field.
 use mathlib.Core.Path.{_≡_, refl, sym, _∙_, ap, subst}
 use Prim.Native.Nat.{ℕ}

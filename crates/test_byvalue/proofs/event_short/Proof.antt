@@ -1,4 +1,4 @@
--- `byvalue::event_short` meets its contract: its MIR is followed statement by statement, from what the parameters own to what the contract says.
+-- `test_byvalue::event_short` meets its contract: its MIR is followed statement by statement, from what the parameters own to what the contract says.
 -- A local array of 63 entries is lent for the call; the refusal leaves it as it is.
 use mathlib.Core.Path.{_≡_, refl, sym, _∙_, ap, subst}
 use Prim.Native.Nat.{ℕ}

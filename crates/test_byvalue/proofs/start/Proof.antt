@@ -1,4 +1,4 @@
--- `byvalue::start` meets its contract: its MIR is followed statement by statement, from what the parameters own to what the contract says.
+-- `test_byvalue::start` meets its contract: its MIR is followed statement by statement, from what the parameters own to what the contract says.
 -- The ring is copied to a local, and lent for the call to be read.
 use mathlib.Core.Path.{_≡_, refl, sym, ap, subst}
 use Prim.Native.Nat.{ℕ}

@@ -1,4 +1,4 @@
--- `replay::room` meets its contract.
+-- `test_replay::room` meets its contract.
 use Prim.Native.Nat.{ℕ}
 use mathlib.Core.Path.{sym}
 use lib.ListN.{length-replicate}

@@ -1,4 +1,4 @@
--- `vectors::turn` meets its contract.
+-- `test_vectors::turn` meets its contract.
 use native.Mathlib.Omega.{arith}
 use mathlib.Core.Path.{sym}
 use lib.Seq.{length-take-le}

@@ -1,4 +1,4 @@
--- `bench::words::value` meets its contract.
+-- `program_bench::words::value` meets its contract.
 use Prim.Native.Nat.{_-_, _≤_}
 use borrow.Author.Needs.{needs}
 use Rattle.program_bench.proofs.words.value.Statement.{statement}

@@ -1,4 +1,4 @@
--- `bench::work::put` meets its contract.
+-- `program_bench::work::put` meets its contract.
 use Prim.Native.Nat.{_-_, _≤_}
 use mathlib.Core.Path.{_≡_}
 use lib.ListN.{length}

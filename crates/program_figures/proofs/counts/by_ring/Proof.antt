@@ -1,4 +1,4 @@
--- `figures::counts::by_ring` meets its contract.
+-- `program_figures::counts::by_ring` meets its contract.
 use Prim.Native.Nat.{_≤_, _-_}
 use lib.ListN.{length}
 use mathlib.Core.Path.{_≡_}

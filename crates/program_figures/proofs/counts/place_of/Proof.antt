@@ -1,4 +1,4 @@
--- `figures::counts::place_of` meets its contract.
+-- `program_figures::counts::place_of` meets its contract.
 use Prim.Native.Nat.{_≤_, _-_}
 use lib.ListN.{length}
 use borrow.Author.Needs.{needs}

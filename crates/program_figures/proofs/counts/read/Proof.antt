@@ -1,4 +1,4 @@
--- `figures::counts::read` meets its contract.
+-- `program_figures::counts::read` meets its contract.
 use Prim.Native.Nat.{_≤_, _-_}
 use borrow.Author.Needs.{needs}
 use Rattle.program_figures.proofs.counts.read.Statement.{statement}

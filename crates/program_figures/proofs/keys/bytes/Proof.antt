@@ -1,4 +1,4 @@
--- `figures::keys::bytes` meets its contract.
+-- `program_figures::keys::bytes` meets its contract.
 use Prim.Native.Nat.{_≤_, _-_}
 use lib.ListN.{length}
 use mathlib.Core.Path.{_≡_}

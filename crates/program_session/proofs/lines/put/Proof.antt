@@ -1,4 +1,4 @@
--- `session::lines::put` meets its contract.
+-- `program_session::lines::put` meets its contract.
 use Prim.Native.Nat.{_+_, _-_, _≤_}
 use mathlib.Core.Path.{_≡_}
 use lib.ListN.{length}

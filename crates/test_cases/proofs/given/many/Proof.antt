@@ -1,4 +1,4 @@
--- `cases::given::many` meets its contract.
+-- `test_cases::given::many` meets its contract.
 use Prim.Native.Nat.{_≤_, _-_}
 use borrow.Author.Needs.{needs}
 use Rattle.test_cases.proofs.given.many.Statement.{statement}

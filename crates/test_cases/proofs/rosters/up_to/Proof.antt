@@ -1,4 +1,4 @@
--- `cases::rosters::up_to` meets its contract.
+-- `test_cases::rosters::up_to` meets its contract.
 use Prim.Native.Nat.{_≤_, _-_}
 use borrow.Author.Needs.{needs}
 use Rattle.test_cases.proofs.rosters.up_to.Statement.{statement}

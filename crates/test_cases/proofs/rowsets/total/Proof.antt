@@ -1,4 +1,4 @@
--- `cases::rowsets::total` meets its contract.
+-- `test_cases::rowsets::total` meets its contract.
 use Prim.Native.Nat.{_≤_, _-_}
 use borrow.Author.Needs.{needs}
 use Rattle.test_cases.proofs.rowsets.total.Statement.{statement}

@@ -1,4 +1,4 @@
--- `replay::digests::over_numbers` meets its contract.
+-- `test_replay::digests::over_numbers` meets its contract.
 use Prim.Native.Nat.{_≤_, _-_}
 use lib.ListN.{length}
 use borrow.Author.Needs.{needs}

@@ -1,4 +1,4 @@
--- `replay::digests::over_ring` meets its contract.
+-- `test_replay::digests::over_ring` meets its contract.
 use Prim.Native.Nat.{_≤_, _-_}
 use borrow.Author.Needs.{needs}
 use Rattle.test_replay.proofs.digests.over_ring.Statement.{statement}

@@ -1,4 +1,4 @@
--- `replay::lend::act` meets its contract.
+-- `test_replay::lend::act` meets its contract.
 use native.Mathlib.Omega.{arith}
 use mathlib.Core.Path.{_≡_, sym}
 use lib.ListN.{length}

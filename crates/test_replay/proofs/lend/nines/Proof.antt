@@ -1,4 +1,4 @@
--- `replay::lend::nines` meets its contract.
+-- `test_replay::lend::nines` meets its contract.
 use Prim.Native.Nat.{_≤_, _-_}
 use mathlib.Core.Path.{_≡_}
 use lib.ListN.{length}
