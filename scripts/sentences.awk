@@ -44,7 +44,7 @@ function packet() {
 function sentence() {
     if ($3 != 0) return "Refused: " ($3 in why ? why[$3] : "by number " $3) ". Nothing changes. (" asked() ")"
     if ($2 == 1) return "A packet of " session() ", " packet()
-    if ($2 == 2) return "The session of " session() ", ends" ($5 == 5 ? ", and its record goes." : ". It had no record, so there is nothing to remove.")
+    if ($2 == 2) return "The session of " session() ", ends" ($5 == 5 ? ", and its record goes." : ". It had no record: nothing to remove.")
     if ($2 == 3) return "Mover " named() " comes out of the horizon and works."
     if ($2 == 4) return "Mover " named() " leaves work for the horizon, and every record that named it goes (" \
         before - $7 (before - $7 == 1 ? " record)." : " records).")

@@ -55,9 +55,9 @@ END {
     row("at the end", used)
 
     print "\nPackets for each mover" (packets ? "" : ": none")
-    if (!packets) exit
-    printf "  %12s %20s %10s\n", "mover", "packets", "per cent"
-    fflush()
+    if (packets) printf "  %12s %20s %10s\n", "mover", "packets", "per cent"
+    lost = fflush()
     for (i in led) printf "  %12s %20.0f %10.1f\n", i, led[i], 100 * led[i] / packets | "sort -n"
-    close("sort -n")
+    if (packets) lost = close("sort -n") || lost
+    if (lost) exit 2
 }
