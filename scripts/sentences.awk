@@ -36,7 +36,7 @@ function asked() {
     return what[$2]
 }
 function packet() {
-    if ($5 == 1) return "goes to mover " $4 ", as its record (place " $6 ") says: whatever joins, the tape stays where it is."
+    if ($5 == 1) return "goes to mover " $4 ", as its record (place " $6 ") says: whichever mover joins, the session stays there."
     if ($5 == 2) return "goes to mover " $4 ". " safety()
     if ($5 == 3) return "goes to mover " $4 " and is recorded, because " takers() "."
     return "goes to mover " $4 ", and is NOT RECORDED, though " takers() ": the table is full."
