@@ -117,25 +117,28 @@ def share_lines(points, working, horizon):
 
 class Door:
     """"if the key has a record, its server. Otherwise the choice over the working set"; "recorded where there is room".
-    A session is known by its number, a mover by its place. "Moved" are sessions led elsewhere although their last mover works."""
+    A session is known by its number, a mover by its place. "Moved" are sessions led elsewhere although their last mover works,
+    "left" those whose last mover doesn't."""
 
     def __init__(self, points, servers, working):
         self.works = [place < working for place in range(len(servers))]
         self.ranked = [ranking(servers, p % 2**31) for p in points]
-        self.records, self.last, self.no_room = {}, [None] * len(points), 0
+        self.records, self.last = {}, [None] * len(points)
 
     def round(self):
-        """Each session sends a packet, in turn; how many moved."""
-        moved = self.no_room = 0
+        """Each session sends a packet, in turn: used records, sessions that found no room, those that moved, those whose mover had left."""
+        self.no_room = moved = left = 0
         for i, ranked in enumerate(self.ranked):
             place = self.records.get(i)
             if place is None:
                 place = next(s for s in ranked if self.works[s])
                 if place != ranked[0]:
                     self.record(i, place)
-            moved += self.last[i] not in (None, place) and self.works[self.last[i]]
+            if self.last[i] not in (None, place):
+                moved += self.works[self.last[i]]
+                left += not self.works[self.last[i]]
             self.last[i] = place
-        return moved
+        return len(self.records), self.no_room, moved, left
 
     def record(self, session, place):
         if len(self.records) < PLACES:
@@ -159,23 +162,19 @@ def ranking(servers, digest):
 
 
 def rounds(door, changes):
-    """A round of packets, and one behind each change: used records, sessions that found no room, sessions that moved, each time."""
-    out = []
-    for change in (lambda: None, *changes):
+    """What a round of packets comes to, and one behind each change."""
+    out = [*door.round()]
+    for change in changes:
         change()
-        moved = door.round()
-        out += len(door.records), door.no_room, moved
+        out += door.round()
     return out
 
 
 def turns_lines(points, working, horizon, draws):
     """A line for each draw. In a turn the mover that stood by longest joins, and then the one that worked longest leaves work."""
-    stream, n, seen = Stream(2), working + horizon, set()
+    stream, n = Stream(2), working + horizon
     for _ in range(draws):
-        servers = drawn(stream, n)
-        assert not seen & set(servers)
-        seen |= set(servers)
-        door = Door(points, servers, working)
+        door = Door(points, drawn(stream, n), working)
 
         def turn(k):
             door.join((working + k) % n)

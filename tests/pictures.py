@@ -98,7 +98,7 @@ def rotations(found):
     colours = {15: "#1b6ca8", 14: "#c4491d", 12: "#3d8b37"}
     for working, colour in colours.items():
         draws = found["turns", working, 16 - working, 3000]
-        each = [[line[3 * k] for line in draws] for k in range(21)]
+        each = [[line[4 * k] for line in draws] for k in range(21)]
         band = [panel.at(k, max(u)) for k, u in enumerate(each)] + [panel.at(k, min(u)) for k, u in reversed(list(enumerate(each)))]
         p.path(band, "none", 'fill-opacity="0.18"', colour)
         p.path([panel.at(k, sum(u) / len(u)) for k, u in enumerate(each)], colour, 'stroke-width="2.5"')

@@ -119,7 +119,7 @@ def sizes():
 
 def turned(working, k):
     """Used records after k rotations: mean, lowest and highest of the draws."""
-    used = [line[3 * k] for line in FOUND["turns", working, MOVERS - working, 3000]]
+    used = [line[4 * k] for line in FOUND["turns", working, MOVERS - working, 3000]]
     return f"{sum(used) / len(used):,.0f} ({min(used):,} to {max(used):,})"
 
 
@@ -141,7 +141,8 @@ def rotation_sizes():
 def full():
     rows = []
     for name, w, h, live in [key for key in FOUND if key[0] == "joins"]:
-        _, no_room, _, _, _, first, _, _, second = FOUND[name, w, h, live][0]
+        line = FOUND[name, w, h, live][0]
+        no_room, first, second = line[1], line[6], line[10]
         short = without(live, h / (w + h))
         rows.append((f"{live:,}", about(short), f"{no_room:,}", about(short * taken(w, h)), f"{first:,}", about(short / h * taken(w + 1, h - 1)),
                      f"{second:,}"))

@@ -4,10 +4,12 @@ use crate::counts;
 use crate::keys;
 use table::Found;
 
-// What a round of packets came to: sessions led elsewhere although their last mover works, and sessions that found no room.
+// What a round of packets came to: sessions that found no room, sessions led elsewhere although their last mover works, and sessions
+// led elsewhere because it doesn't.
 pub struct Sent {
-    pub moved: u32,
     pub no_room: u32,
+    pub moved: u32,
+    pub left: u32,
 }
 
 // Where a packet goes, and whether it should have been recorded and found no room.
@@ -67,16 +69,18 @@ fn more_if(so: bool, n: u32) -> u32 {
 // A round with one packet more, of a session that was at a mover before, or nowhere (0).
 fn with(r: Sent, led: Led, before: u32, works: bool) -> Sent {
     Sent {
-        moved: more_if(works && before != led.server, r.moved),
         no_room: more_if(led.no_room, r.no_room),
+        moved: more_if(works && before != led.server, r.moved),
+        left: more_if(before != 0 && !works, r.left),
     }
 }
 
 // Every session sends a packet; where each one went stands in `last`.
 pub(crate) fn round(table: &mut [u8], servers: &[u32], states: &[u8], last: &mut [u32]) -> Sent {
     let mut r = Sent {
-        moved: 0,
         no_room: 0,
+        moved: 0,
+        left: 0,
     };
     let mut x: u32 = 1;
     let mut i = 0;
@@ -90,6 +94,15 @@ pub(crate) fn round(table: &mut [u8], servers: &[u32], states: &[u8], last: &mut
         i += 1;
     }
     r
+}
+
+// No session is at a mover.
+pub(crate) fn forget(last: &mut [u32]) {
+    let mut i = 0;
+    while i < last.len() {
+        last[i] = 0;
+        i += 1;
+    }
 }
 
 // A state for the mover at a place.

@@ -3,9 +3,9 @@
 //     keys      20,000 keys, and how many of them each server gets: whether the server numbers are spread (1) or consecutive (0), how
 //               many servers work, method, row count; the keys of each
 //     share     the same keys: working, horizon, method, row count; how many are recorded, in each draw of server numbers
-//     turns     sessions while 16 movers take turns: working, horizon, sessions; then three numbers for the first round of packets and
+//     turns     sessions while 16 movers take turns: working, horizon, sessions; then four numbers for the first round of packets and
 //               for the one after each of 20 turns: records used, sessions that found no room, sessions led elsewhere although
-//               their mover worked
+//               their mover worked, sessions whose mover had left work
 //     joins     the same, with one standby joining after the other and nobody leaving
 mod counts;
 mod door;

@@ -22,7 +22,8 @@ fn change(
     }
 }
 
-// So many rounds, and of each three numbers: used records, sessions that found no room, sessions that moved.
+// So many rounds, and of each four numbers: used records, sessions that found no room, sessions that moved although their mover
+// worked, sessions whose mover had left work.
 fn show(
     table: &mut [u8],
     servers: &[u32],
@@ -35,7 +36,8 @@ fn show(
     let mut k = 0;
     while k < rounds {
         let sent = door::round(table, servers, states, last);
-        say::three(say::low(table::used(table)), sent.no_room, sent.moved);
+        say::number(say::low(table::used(table)));
+        say::three(sent.no_room, sent.moved, sent.left);
         change(table, servers, states, joining, k, turns);
         k += 1;
     }
@@ -54,6 +56,7 @@ fn line(
     let mut states = [0u8; MOVERS];
     numbers::states(&mut states, working as usize);
     table::start(table);
+    door::forget(last);
     say::three(working, 16 - working % 17, say::low(last.len()));
     show(
         table,
@@ -66,8 +69,7 @@ fn line(
     );
 }
 
-// 16 movers that take turns, of which so many work: a line of 21 rounds for each draw of their numbers. No number is drawn twice, so
-// that where a session was in the draw before counts for nothing.
+// 16 movers that take turns, of which so many work: a line of 21 rounds for each draw of their numbers.
 pub(crate) fn turns(table: &mut [u8], last: &mut [u32], working: u32, draws: u32) {
     let mut servers = [0u32; MOVERS];
     let mut x = numbers::start(1);
