@@ -103,6 +103,7 @@ def rotations(found):
         p.path(band, "none", 'fill-opacity="0.18"', colour)
         p.path([panel.at(k, sum(u) / len(u)) for k, u in enumerate(each)], colour, 'stroke-width="2.5"')
         p.path([panel.at(k, 3000 * rotated(working, 16 - working, k)) for k in range(21)], "#000", 'stroke-dasharray="5 4"')
+    p.text(panel.x(20), panel.y(450), "a line: the mean of ten draws; its band: the lowest to the highest", "end", 'font-size="12"')
     p.line(*panel.at(0, 188), *panel.at(20, 188), "#888", 'stroke-dasharray="2 3"')
     p.text(panel.x(20), panel.y(188) - 6, "3,000 x 1 / 16: one standby, if the movers didn't rotate", "end", 'font-size="12"')
     for n, (working, colour) in enumerate(colours.items()):
@@ -115,7 +116,7 @@ def rotations(found):
 
 def keys(found):
     """The keys of each of 16 movers: a row of panels for spread numbers, one for consecutive ones."""
-    p = Picture(760, 545, "Keys of each of 16 movers, of 20,000")
+    p = Picture(760, 545, "How many of 20,000 keys each of 16 movers gets")
     rows = ((1, 35, 4000, 1000, "spread numbers"), (0, 265, 20000, 5000, "numbers 1 to 16"))
     for spread, top, most, step, words in rows:
         for n, name in enumerate(("HRW", "ring", "4,096 rows")):
@@ -127,7 +128,7 @@ def keys(found):
             p.line(panel.left, panel.y(1250), panel.left + 205, panel.y(1250), "#000", 'stroke-dasharray="5 4"')
     p.line(75, 503, 105, 503, "#000", 'stroke-dasharray="5 4"')
     p.text(112, 507, "the even share, 1,250")
-    p.text(75, 529, "A bar for each mover, in the order of their numbers. The two rows have different scales.")
+    p.text(75, 529, "One draw. A bar for each mover, in the order of their numbers. The two rows have different scales.")
     return p.done()
 
 

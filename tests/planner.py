@@ -74,9 +74,9 @@ def without(live, share):
     return dev * (math.exp(-z * z / 2) / math.sqrt(2 * math.pi) - z * math.erfc(z / math.sqrt(2)) / 2)
 
 
-def taken(working, standbys):
-    """The share of the sessions without a place that one of the standbys takes away by joining."""
-    return (working + standbys) / (standbys * (working + 1))
+def taken(working, standbys, join=1):
+    """The share of the sessions without a place that a join takes away, the first or a later one, before which so many work and stand by."""
+    return (working + standbys) / (standbys * (working + join))
 
 
 def about(x):
@@ -144,7 +144,7 @@ def full():
         line = FOUND[name, w, h, live][0]
         no_room, first, second = line[1], line[6], line[10]
         short = without(live, h / (w + h))
-        rows.append((f"{live:,}", about(short), f"{no_room:,}", about(short * taken(w, h)), f"{first:,}", about(short / h * taken(w + 1, h - 1)),
+        rows.append((f"{live:,}", about(short), f"{no_room:,}", about(short * taken(w, h)), f"{first:,}", about(short * taken(w, h, 2)),
                      f"{second:,}"))
     return table(("live sessions", "without a place: estimate", "counted", "moved by the first join: estimate", "counted",
                   "moved by the second: estimate", "counted"), rows)
@@ -161,11 +161,29 @@ def risks():
 
 def short():
     line = FOUND["turns", 15, 1, 8000][0]
-    return table(("rotations", *range(8, 21)), [(name, *(f"{line[3 * k + i]:,}" for k in range(8, 21))) for i, name in
-                                                enumerate(("records used", "sessions without a place", "moved"))])
+    names = ("records used", "sessions without a place", "moved for lack of a place", "moved since their mover left work")
+    return table(("rotations", *range(8, 21)), [(name, *(f"{line[4 * k + i]:,}" for k in range(8, 21))) for i, name in enumerate(names)])
 
 
-TABLES = (evenness, shares, sizes, rotations, rotation_sizes, full, risks, short)
+def leaving():
+    rows = []
+    for working in (15, 14, 12):
+        lines = FOUND["turns", working, MOVERS - working, 3000]
+        rows.append((MOVERS - working, *(f"{sum(line[4 * k + 3] for line in lines) / len(lines):,.0f}" for k in (1, 5, 10, 15, 20))))
+    return table(("standbys of 16 movers", *(f"rotation {k}" for k in (1, 5, 10, 15, 20))), rows)
+
+
+TABLES = (evenness, shares, sizes, rotations, rotation_sizes, leaving, full, risks, short)
+
+
+def said():
+    """Numbers in the page's sentences, made of the formulas."""
+    sessions, few = without(27000, 1 / 8), rotated(14, 2, 2)
+    return (f"plan for {most(1 / 8) // 100 * 100:,} live sessions", f"With the margin it is {most(1 / 8):,}:", f"= {100 * few:.1f} %, not 12.5 %",
+            f"about {round(PLACES / few, -1):,.0f} sessions, with the margin by {most(few):,}: plan for {most(few) // 100 * 100:,}",
+            f"z = {(PLACES - 27000 / 8) / spread(27000, 1 / 8)[1]:.2f} and W = {sessions:.0f}.",
+            f"12 x {sessions:.0f} = {12 * round(sessions):,} packets with mark 4",
+            f"{100 * taken(14, 2):.0f} % of the sessions without a place: {sessions * taken(14, 2):.0f} tapes", f"which is {(8000 - 2 * PLACES) / MOVERS:.1f}:")
 
 
 def page(text):
@@ -182,6 +200,8 @@ def main():
     have = open(PAGE, encoding="utf-8").read()
     want = {PAGE: page(have)}
     want.update((os.path.join(ROOT, "docs", name), text) for name, text in pictures.drawn(FOUND))
+    plain = " ".join(have.split())
+    lost = [words for words in said() if words not in plain] + [name for name, _ in pictures.drawn(FOUND) if f"]({name})" not in plain]
     stale = [p for p, text in want.items() if not os.path.exists(p) or open(p, encoding="utf-8").read() != text]
     if sys.argv[1:] == ["write"]:
         for path in stale:
@@ -190,7 +210,9 @@ def main():
     elif sys.argv[1:] == ["check"]:
         for path in stale:
             print(os.path.relpath(path, ROOT), "isn't what `python3 tests/planner.py write` makes", file=sys.stderr)
-        return bool(stale)
+        for words in lost:
+            print("docs/FIGURES.md doesn't say:", words, file=sys.stderr)
+        return bool(stale or lost)
     else:
         sys.exit("words: write or check")
     return 0
