@@ -70,7 +70,7 @@ BEGIN {
     what[6] = "remove horizon"; what[7] = "configure"
     stands("", 0)
     if (title != "") put(title)
-    put("Each line: event, kind, refusal, server, mark, records read, records used.\n")
+    put("Each line: event, kind, refusal, mover, mark, records read, records used.\n")
 }
 /^ / { record[++records] = $0 }
 /^[0-9]/ { line[++lines] = $0 }

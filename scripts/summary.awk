@@ -4,7 +4,7 @@
 
 BEGIN {
     for (i = 1; i <= 11; i++) { marks[i] = refusals[i] = 0; first_mark[i] = first_refusal[i] = "" }
-    most = packets = refused = alarms = 0
+    most = packets = refused = alarms = wrong = 0
 }
 {
     if ($3 != 0) { if (!refusals[$3]++) first_refusal[$3] = $1 }
@@ -26,8 +26,12 @@ END {
     alarm("mark 4", marks[4], first_mark[4], "the table was full, and such a session may move when a standby joins")
     alarm("refusal 7", refusals[7], first_refusal[7], "a packet was refused because no mover worked")
     alarm("refusal 8", refusals[8], first_refusal[8], "a packet was refused because it was led to a mover that didn't work")
+    alarm("refusal 9", refusals[9], first_refusal[9], "a buffer has a wrong length: the machine or the program is faulty")
+    alarm("refusal 11", refusals[11], first_refusal[11], "the roster isn't in its form: the machine or the program is faulty")
     alarm("refusal 10", refusals[10], first_refusal[10], "configure was refused, and the method stayed as it was")
-    print alarms ? "docs/OPERATORS.md says what to do." : "No alarm: no mark 4, no refusal 7, 8 or 10."
+    wrong = refusals[1] + refusals[2]
+    if (wrong >= 10) alarm("refusals 1 and 2", wrong, refusals[1] ? first_refusal[1] : first_refusal[2], "the sender writes records wrongly, or bytes were lost")
+    print alarms ? "docs/OPERATORS.md says what to do." : "No alarm: no mark 4, no refusal 7 to 11, refusals 1 and 2 fewer than ten times."
 
     for (i in refusals) refused += refusals[i]
     print "\nEvents"
@@ -48,7 +52,7 @@ END {
     why[7] = "packet while NO MOVER WORKS"; why[8] = "packet led to a mover that DOESN'T WORK"; why[9] = "a buffer has a wrong length"
     why[10] = "configure with movers or records there"; why[11] = "the roster isn't in its form"
     print "\nRefusals" (refused ? "" : ": none")
-    for (i = 1; i <= 11; i++) if (refusals[i]) numbered(i, why[i], refusals[i], i == 7 || i == 8 || i == 10)
+    for (i = 1; i <= 11; i++) if (refusals[i]) numbered(i, why[i], refusals[i], i >= 7 || i <= 2 && wrong >= 10)
 
     print "\nRecords used"
     row("at most, of 3276 places", most, most ? "  first at event " reached : "")

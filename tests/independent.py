@@ -1,12 +1,12 @@
 #!/usr/bin/env python3
-"""What the programs `cases`, `vectors` and `bench` must print, worked out from the sentences of document 01.
+"""What the programs test_cases, test_vectors and program_bench must print, worked out from the sentences of document 01.
 
     python3 tests/independent.py cases   | cmp - crates/test_cases/stdout
     python3 tests/independent.py vectors | cmp - crates/test_vectors/stdout
     python3 tests/independent.py bench   | cmp - crates/program_bench/stdout
     python3 tests/independent.py bench METHOD SERVERS HORIZON RECORDS PACKETS CHANGES
 
-It reads the cases, crates/NAME/stdin (of `bench` crates/program_bench/args), and nothing else: every rule below
+It reads the cases, crates/NAME/stdin (of program_bench crates/program_bench/args), and nothing else: every rule below
 stands under the sentence that it was written from. Nothing here runs or reads the Rattle code.
 """
 import os

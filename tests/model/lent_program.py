@@ -1,4 +1,4 @@
-"""Cases for the program `replay`: buffers and rosters that someone else wrote, one event or one start on each.
+"""Cases for the program test_replay: buffers and rosters that someone else wrote, one event or one start on each.
 
 A case gives two lines (`replay.py` writes them). What the program has to print: the case's name, a colon, refusal, server,
 mark, reads, the used records afterwards, and the digests of table, rows, flags, ring and roster (layout: session.py), `-`

@@ -1,4 +1,4 @@
-"""The program `replay` on the model: what it reads, and what it has to print.
+"""The program test_replay on the model: what it reads, and what it has to print.
 
     python3 replay.py text > ../../crates/test_replay/stdin            its own stream, then the cases of lent_program.py
     python3 replay.py lines > ../../crates/test_replay/stdout
