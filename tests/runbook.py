@@ -455,6 +455,15 @@ def functions():
     assert sh(FUNCTIONS + "\n".join(want), HERE) == b"".join(want.values())
 
 
+@says("What can't be right is said and sends nothing")
+def typing_errors():
+    for line in ("add_horizon 4294967296", "add_horizon 20 21", "add_horizon 010", "add_horizon", "add_working x", "configure 300", "configure 3 70000", "configure",
+                 "end 10.1.0.300 5 10.0.0.2 443 6", "packet 10.0.1 5 10.0.0.2 443 6", "packet 10.0.0.1 70000 10.0.0.2 443 6", "packet 10.0.0.1 5 10.0.0.2 443",
+                 "packet 10.0.0.1 5 10.0.0.2 443 256", "packet 10.0.0.1 5 10.0.0.2.9 443 6", "packet 10.0.0.1 5 10.0.0.2 443 6 7"):
+        done = subprocess.run(["sh", "-c", FUNCTIONS + line], stdout=subprocess.PIPE, stderr=subprocess.PIPE, timeout=60)
+        assert done.returncode == 1 and not done.stdout and done.stderr.startswith(b"not sent"), line
+
+
 @says("HRW, movers 7 and 9 stand by, 7 works, a packet, 9 joins, the packet again, 7 stops, the packet again, the session ends")
 def example():
     want = ([streams.with_settings(1, 0)] + add_horizon(7, 9) + add_working(7) + packets([ONE]) + add_working(9) + packets([ONE])
@@ -475,7 +484,7 @@ def running_session():
     mine, sender = sum(typed.values(), roster([7, 9], [12])), packets(K[:256])
     begin = PIPE.replace("./jet session", "'%s' '%s'" % (START, PROGRAM))
     beside = "for i in %s; do dd if=sent bs=4096 status=none; done >&3 &" % " ".join("x" * 60)
-    after = "exec 3>&-; wait; mv kept kept.old; printf '\\5\\0\\0\\1' >>kept.old"      # a cut record, as a crash may leave one
+    after = "exec 3>&-; wait; old=kept.1; mv kept $old; printf '\\5\\0\\0\\1' >>$old"      # a cut record, as a crash may leave one
     with tempfile.TemporaryDirectory() as folder:
         def content(name, given=None):
             with open(os.path.join(folder, name), "rb" if given is None else "wb") as one:
@@ -483,7 +492,7 @@ def running_session():
         content("roster", ROSTER.encode())
         content("sent", b"".join(sender))
         sh("\n".join([FUNCTIONS + begin + command(". ./roster"), beside, *typed, after, TAKEN_OUT]), folder)
-        kept = session.split(content("kept.old")[:-4])
+        kept = session.split(content("kept.1")[:-4])
         assert Counter(kept) == Counter(mine + sender * 60), "an event was torn or lost"
         assert [e for e in kept if e in mine] == mine, "events changed their order"
         lines = run(kept)[0]
@@ -498,8 +507,6 @@ def commands(folder, lines):
         got = sh(command(begin), folder).decode()
         assert sorted(lines_of(got)) == sorted(chosen), begin
     prints("awk '$3' ", [line for line in lines if line.refusal])
-    prints("awk '$2 == 4", [line for line in lines if line.kind == 4 and not line.refusal])
-    prints("awk '!$3 && $2 > 2'", [line for line in lines if line.kind > 2 and not line.refusal])
     prints("awk '$1 != NR'", [])
     first = next((line.event for line in lines if line.kind == 1 and not line.refusal), len(lines))
     prints("awk '!$3 && $2 == 1", [line for line in lines if line.kind == 3 and not line.refusal and line.event > first])
@@ -513,7 +520,7 @@ def commands(folder, lines):
     assert sorted(got) == sorted(["%s: %d" % pair for pair in want.items()] + ["used now: %d" % last[-1].used]), got
 
 
-@says("fill up: head -c $((16 - $(wc -c <kept) % 16)) /dev/zero >&3")
+@says("Fill up: head -c $((16 - $(wc -c <kept) % 16)) /dev/zero >&3")
 def fill_up():
     with tempfile.TemporaryDirectory() as folder:
         for size in (1, 15, 16, 17, 1000):
