@@ -198,14 +198,16 @@ def printed(job):
 
 
 def figures():
-    """All lines, worked out on every core."""
+    """All lines, worked out on every core, or on one where processes can't share locks."""
     jobs = [("keys_lines", KEYS, (spread, n)) for spread in (1, 0) for n in SIZES]
     jobs += [("share_lines", KEYS, sets) for sets in SETS]
     jobs += [("turns_lines", live, words) for live, *words in TURNING]
     jobs += [("joins_line", live, sets) for *sets, live in JOINING]
-    with multiprocessing.Pool() as pool:
-        for text in pool.imap(printed, jobs):
-            sys.stdout.write(text)
+    try:
+        each = multiprocessing.Pool().imap(printed, jobs)
+    except (ImportError, OSError):
+        each = map(printed, jobs)
+    sys.stdout.writelines(each)
 
 
 if __name__ == "__main__":
