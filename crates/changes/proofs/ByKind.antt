@@ -13,7 +13,7 @@ use Rattle.event.specs.Event.{requestBy}
 use Rattle.event.specs.declared.Ask.{Ask}
 use Rattle.event.specs.declared.Ask.the-variants.{End, AddWorking, RemoveWorking, AddHorizon, RemoveHorizon, Configure, Refused}
 use Rattle.rows.specs.Rows.{Rows, filled}
-use Rattle.table.specs.Table.{Finding, used, removed, removedServer}
+use Rattle.table.specs.Table.{Finding, used, tagAt, halfClosed, removed, removedServer}
 use Rattle.rules.specs.Answer.{accepts}
 use Rattle.rules.specs.Rules.{stateWith, State, Change, judged, barred, effect, end, refused, answered, taken, changed, configured, refilled}
 
@@ -80,10 +80,17 @@ module _ (key t rows flags : List ℕ) (found : Finding) (pick : Pick) (r : Rost
     configure-done e u = rw (eq-eqb (r .held) 0 e, eq-eqb (used t) 0 u)
 
 module _ (key t rows flags : List ℕ) (pick : Pick) (r : Roster) (n : ℕ) where
-  pub end-5 : answered (accepts 0 5 n) (removed n t) (stateWith t rows flags r)
+  pub end-8 : tagAt n t ≡ 1
+      → answered (accepts 0 8 n) (halfClosed n t) (stateWith t rows flags r)
       ≡ judged (requestBy End key) (record { found = true; reads = n }) pick (stateWith t rows flags r)
   unfolding judged barred effect end
-  end-5 = refl
+  end-8 e = rw (eq-eqb (tagAt n t) 1 e)
+
+  pub end-5 : (tagAt n t ≡ 1 → ⊥)
+      → answered (accepts 0 5 n) (removed n t) (stateWith t rows flags r)
+      ≡ judged (requestBy End key) (record { found = true; reads = n }) pick (stateWith t rows flags r)
+  unfolding judged barred effect end
+  end-5 e = rw (ne-eqb (tagAt n t) 1 e)
 
   pub end-6 : answered (accepts 0 6 n) t (stateWith t rows flags r)
       ≡ judged (requestBy End key) (record { found = false; reads = n }) pick (stateWith t rows flags r)

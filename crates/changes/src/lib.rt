@@ -16,7 +16,7 @@ ghost use Rattle.table.specs.Table.{Finding, findingOf};
 ghost use Rattle.rules.specs.Rules.{stateWith, changed, judged};
 ghost use Rattle.answers.specs.Reacting.{reacted, replied};
 
-// An end of connection: the key's record is taken away.
+// An end of connection: the first on the key's record half-closes it, the next takes it away.
 pub fn end(found: Found, table: &mut [u8]) -> Reply
     ensures { λ v. ⌜ ((key : List ℕ) (pick : Pick) (rows flags : List ℕ) (r : Roster)
         → replied v (now (table .exit)) rows flags r
@@ -24,6 +24,14 @@ pub fn end(found: Found, table: &mut [u8]) -> Reply
 {
     match found {
         Found::At(place) => {
+            if table::tag_at(table, place) == table::NEW_TAG {
+                table::half_close(table, place);
+                return Reply::Accepted {
+                    server: 0,
+                    mark: rules::RECORD_HALF_CLOSED,
+                    reads: place,
+                };
+            }
             table::remove(table, place);
             Reply::Accepted {
                 server: 0,

@@ -10,7 +10,7 @@ use mathlib.Core.Path.{_≡_}
 use lib.ListN.{length, replicate}
 use Rattle.sets.specs.Sets.{member}
 use Rattle.roster.specs.Roster.{workingSet, horizon, emptyRoster}
-use Rattle.table.specs.Table.{used, room, serverAt}
+use Rattle.table.specs.Table.{used, room, serverAt, tagAt}
 use Rattle.rules.specs.declared.Reply.{Reply}
 use Rattle.rules.specs.declared.Reply.the-variants.{Accepted, Refused}
 use Rattle.rules.specs.Answer.{answerOf}
@@ -76,9 +76,11 @@ pub data PacketMark (key : List ℕ) (w : World) : ℕ → ℕ → ℕ → Type 
   chosen : NoRecord key (w .state .table) → (s mark : ℕ) (Unsafe : Type 0) → Given key w s Unsafe
       → ChosenMark Unsafe (w .state .table) mark → PacketMark key w s mark (used (w .state .table))
 
--- mark and reads of an end: "5 record removed, 6 nothing to remove"
+-- mark and reads of an end: request [1], "The first end on a record now sets its tag to 2 and gives mark 8; the next end removes it with mark
+-- 5."; "6 nothing to remove"
 pub data EndMark (key t : List ℕ) : ℕ → ℕ → Type 0 where
-  gone : (place : ℕ) → RecordAt key t place → EndMark key t 5 place
+  first : (place : ℕ) → RecordAt key t place → tagAt place t ≡ 1 → EndMark key t 8 place
+  next : (place : ℕ) → RecordAt key t place → tagAt place t ≡ 2 → EndMark key t 5 place
   nothing : NoRecord key t → EndMark key t 6 (used t)
 
 -- server, mark and reads by kind: "Other accepted events carry server, mark and reads 0; so do ends for the server."

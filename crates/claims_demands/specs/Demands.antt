@@ -1,11 +1,13 @@
 -- The user's demands 2 and 3, phrase by phrase (demand 1 stands in Demand1.antt). An engine is what can be seen of it; nothing here names a row, a flag or a ring entry.
-use Prim.Native.Nat.{ℕ, _<_}
-use mathlib.Core.Bool.{Bool, true, false, cond}
+use Prim.Native.Nat.{ℕ, _+_, _<_}
+use mathlib.Core.Bool.{Bool, true, false, cond, _&&_}
 use mathlib.Core.List.{List, [], _∷_, _++_}
 use mathlib.Core.Logic.{_≢_, _↔_, _⊎_}
 use mathlib.Core.Path.{_≡_}
+use lib.Dec.{eqb}
 use lib.ListN.{replicate}
 use Rattle.sets.specs.Sets.{member}
+use Rattle.spans.specs.Spans.{same}
 use Rattle.ranking.specs.Ranking.{Ranking, choice, pickOf, SomeChange}
 use Rattle.roster.specs.declared.Roster.{Roster}
 use Rattle.roster.specs.Roster.{stateOf, working, heldServers, workingSet, horizon, emptyRoster}
@@ -122,13 +124,37 @@ abbrev pub Throughout : (List (List ℕ) → List ℕ → Type 0) → List (List
 Throughout Q [] h = Unit {0}
 Throughout Q (bytes ∷ between) h = Q (between ++ h) bytes × Throughout Q between h
 
+-- a record of bytes is an event of a kind for a key
+abbrev pub isOf : ℕ → List ℕ → List ℕ → Bool
+isOf kind key bytes = eqb (eventIn bytes .kind) kind && same (eventIn bytes .key) key
+
+-- at the event after history g: an accepted end of the key; a packet of the key whose record was written, mark 3
+abbrev pub ended : Engine → List ℕ → List (List ℕ) → List ℕ → Bool
+ended E key g bytes = isOf 2 key bytes && E .says g bytes .accepted
+
+abbrev pub recordWritten : Engine → List ℕ → List (List ℕ) → List ℕ → Bool
+recordWritten E key g bytes = isOf 1 key bytes && eqb (E .says g bytes .mark) 3
+
+-- the ends of a key in a history "since the key's record was written", by its events and the answers to them
+unfoldable pub endsSince : Engine → List ℕ → List (List ℕ) → ℕ
+endsSince E key [] = 0
+endsSince E key (bytes ∷ g) =
+    cond (recordWritten E key g bytes) 0 (cond (ended E key g bytes) (endsSince E key g + 1) (endsSince E key g))
+
+-- request [1], the proviso about ends, at an event between: "fewer than two since the key's record was written", that is of an end that finds a
+-- record; "and none for a key without one", whose end has mark 6
+abbrev pub FewerThanTwo : Engine → List ℕ → List (List ℕ) → List ℕ → Type 0
+FewerThanTwo E key g bytes = ended E key g bytes ≡ true → E .says g bytes .mark ≢ 6 → endsSince E key (bytes ∷ g) < 2
+
+abbrev pub NoneWithout : Engine → List ℕ → List (List ℕ) → List ℕ → Type 0
+NoneWithout E key g bytes = ended E key g bytes ≡ true → E .says g bytes .mark ≢ 6
+
 -- the provisos of demand 3, for a key whose earlier packet, record `earlier` after history h, got mover m, and the records between it and
--- the later packet (the newest first)
-pub record Provisos (E : Engine) (h : List (List ℕ)) (earlier key : List ℕ) (m : ℕ) (between : List (List ℕ)) : Type 0 where
+-- the later packet (the newest first). The one about ends is handed in, since what it has to ask is a question of its own (`ends-enough`).
+pub record Provided (Ends : List (List ℕ) → List ℕ → Type 0) (E : Engine) (h : List (List ℕ)) (earlier key : List ℕ) (m : ℕ) (between : List (List ℕ)) : Type 0 where
   -- "provided that mover worked throughout"
   pub worked : Throughout (λ g bytes. stateOf m (E .roster (bytes ∷ g)) ≡ working) between (earlier ∷ h)
-  -- "the key wasn't ended between them"
-  pub unended : Throughout (λ g bytes. eventIn bytes ≢ asksKey 2 key) between (earlier ∷ h)
+  pub ends : Throughout Ends between (earlier ∷ h)
   -- "every mover brought into work between them was already working or in the horizon at the earlier packet"
   pub held : Throughout
       (λ g bytes. (x : ℕ) → member x (workingSet (E .roster (bytes ∷ g))) ≡ true → member x (workingSet (E .roster g)) ≡ false
@@ -137,6 +163,10 @@ pub record Provisos (E : Engine) (h : List (List ℕ)) (earlier key : List ℕ) 
       (earlier ∷ h)
   -- "and the earlier packet wasn't told there was no room"
   pub roomTold : E .says h earlier .mark ≢ 4
+
+-- "fewer than two since the key's record was written, and none for a key without one"
+abbrev pub Provisos : Engine → List (List ℕ) → List ℕ → List ℕ → ℕ → List (List ℕ) → Type 0
+Provisos E h earlier key m between = Provided (λ g bytes. FewerThanTwo E key g bytes × NoneWithout E key g bytes) E h earlier key m between
 
 -- "get the same mover": the later packet is accepted and gives the earlier one's mover, which at both is demand 2's, over its ranking
 pub record SameMover (E : Engine) (h between : List (List ℕ)) (earlier later key : List ℕ) : Type 0 where

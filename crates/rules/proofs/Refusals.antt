@@ -13,7 +13,8 @@ use Rattle.event.specs.Event.{Request, eventIn}
 use Rattle.table.specs.Table.{Finding, find, room}
 use Rattle.ring.specs.Ring.{entryRead}
 use Rattle.rules.specs.Answer.{Answer, accepts, refuses}
-use Rattle.rules.specs.Rules.{State, World, Change, Done, is, barred, refused, packet, end, effect, judged, pickBy, sizedFor, lentBar, admitted, settled, eventOf, startOf}
+use Rattle.rules.proofs.Ends.{Ends, first, next, nothing, ends}
+use Rattle.rules.specs.Rules.{State, World, Change, Done, is, barred, refused, packet, effect, judged, pickBy, sizedFor, lentBar, admitted, settled, eventOf, startOf}
 
 -- whatever holds of every accepting answer holds of the answer of an event that nothing bars
 module _ (P : Answer → Type 0) (a : (s mark reads : ℕ) → P (accepts s mark reads)) (e : Request) (found : Finding) (pick : Pick) (st : State) where
@@ -24,15 +25,16 @@ module _ (P : Answer → Type 0) (a : (s mark reads : ℕ) → P (accepts s mark
       both (not (pick .flag)) (λ g. rw (f, g) (a _ _ _)) (λ g.
       both (ltb (found .reads) (room (st .table))) (λ h. rw (f, g, h) (a _ _ _)) (λ h. rw (f, g, h) (a _ _ _))))
 
-  end-answers : P (end found st .answer)
-  unfolding end
-  end-answers = both (found .found) (λ f. rw f (a _ _ _)) (λ f. rw f (a _ _ _))
+  end-answers : {c : Change} → Ends found st c → P (c .answer)
+  end-answers (first f t) = a _ _ _
+  end-answers (next f t) = a _ _ _
+  end-answers (nothing f) = a _ _ _
 
   effect-answers : P (effect e found pick st .answer)
   unfolding effect
   effect-answers =
       both (is 1 e) (λ k. rw k (packet-answers (e .key))) (λ k₁.
-      both (is 2 e) (λ k. rw (k₁, k) end-answers) (λ k₂.
+      both (is 2 e) (λ k. rw (k₁, k) (end-answers (ends found st))) (λ k₂.
       both (is 3 e) (λ k. rw (k₁, k₂, k) (a _ _ _)) (λ k₃.
       both (is 4 e) (λ k. rw (k₁, k₂, k₃, k) (a _ _ _)) (λ k₄.
       both (is 5 e) (λ k. rw (k₁, k₂, k₃, k₄, k) (a _ _ _)) (λ k₅.

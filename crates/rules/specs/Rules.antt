@@ -14,13 +14,13 @@ use Rattle.settings.specs.Settings.{byRing, byRowTable}
 use Rattle.roster.specs.declared.Roster.{Roster}
 use Rattle.roster.specs.Roster.{mostServers, sound, working, standby, stateOf, workingSet, horizon, heldServers, addedWorking, removedWorking, addedHorizon, removedHorizon, emptyRoster}
 use Rattle.event.specs.Event.{Request, refusedBy, eventIn, packetKind, endKind, addWorkingKind, removeWorkingKind, addHorizonKind, removeHorizonKind, configureKind}
-use Rattle.table.specs.Table.{recordBytes, mostTableBytes, Finding, find, serverAt, room, used, writtenAfter, removed, removedServer, started}
+use Rattle.table.specs.Table.{recordBytes, mostTableBytes, newTag, Finding, find, serverAt, tagAt, room, used, writtenAfter, halfClosed, removed, removedServer, started}
 use Rattle.rows.specs.Rows.{rowPlaces, Rows, filled, cleared, rowRead}
 use Rattle.ring.specs.declared.Entry.{Entry}
 use Rattle.ring.specs.Ring.{ringPlaces, entryRead, gives}
 use Rattle.ringplan.specs.Plan.{some, drawn}
 use Rattle.rules.specs.declared.Reply.{Reply}
-use Rattle.rules.specs.Answer.{Answer, accepts, refuses, answerOf, fromRecord, chosenSafe, chosenRecorded, noRoom, recordRemoved, nothingToRemove}
+use Rattle.rules.specs.Answer.{Answer, accepts, refuses, answerOf, fromRecord, chosenSafe, chosenRecorded, noRoom, recordRemoved, nothingToRemove, recordHalfClosed}
 
 -- the lent buffers but the ring, and the roster
 pub record State : Type 0 where
@@ -116,11 +116,13 @@ packet key found pick st =
     (answered (accepts (pick .server) chosenRecorded (found .reads)) (writtenAfter (found .reads) key (pick .server) (st .table)) st)
     (answered (accepts (pick .server) noRoom (found .reads)) (st .table) st)))
 
--- "An end takes the key's record away." Marks 5, 6.
+-- Request [1]: "The first end on a record now sets its tag to 2 and gives mark 8; the next end removes it with mark 5." With no record mark 6.
 unfoldable pub end : Finding → State → Change
 end found st =
     cond (found .found)
-    (answered (accepts 0 recordRemoved (found .reads)) (removed (found .reads) (st .table)) st)
+    (cond (eqb (tagAt (found .reads) (st .table)) newTag)
+    (answered (accepts 0 recordHalfClosed (found .reads)) (halfClosed (found .reads) (st .table)) st)
+    (answered (accepts 0 recordRemoved (found .reads)) (removed (found .reads) (st .table)) st))
     (answered (accepts 0 nothingToRemove (found .reads)) (st .table) st)
 
 -- the rows of a roster whose method is 3 hold what its sets give; "under methods 1 and 2 none is [touched]"

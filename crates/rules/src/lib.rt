@@ -11,7 +11,9 @@ pub const CHOSEN_RECORDED: u8 = 3;
 
 pub const NO_ROOM: u8 = 4;
 
-// The marks of accepted ends: the record removed; nothing to remove.
+// The marks of accepted ends: the record half-closed, by its first end; the record removed, by the next; nothing to remove.
+pub const RECORD_HALF_CLOSED: u8 = 8;
+
 pub const RECORD_REMOVED: u8 = 5;
 
 pub const NOTHING_TO_REMOVE: u8 = 6;

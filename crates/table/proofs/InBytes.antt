@@ -2,6 +2,7 @@
 use Prim.Native.Nat.{ℕ, suc, _+_, _*_, _-_, _<_, _≤_}
 use mathlib.Core.Bool.{true, cond}
 use mathlib.Core.List.{List, [], _∷_, _++_, append-assoc}
+use mathlib.Core.Logic.{_⊎_}
 use mathlib.Core.Path.{_≡_, refl, sym, ap, subst, _∙_}
 use native.Mathlib.Omega.{arith}
 use lib.Dec.{eqb}
@@ -17,21 +18,21 @@ use Rattle.table.proofs.Places.{used-more}
 use Rattle.table.proofs.Parts.{Each, Sized, Tagged, each-at, bytes-length, used-at, used-sized, used-tagged, records-behind, behind-unused}
 use Rattle.table.proofs.Packing.{without-in, without-each, without-length, notNaming-each, notNaming-length}
 use Rattle.table.proofs.Records.{used-removedServer, new-length}
+use Rattle.table.proofs.HalfClosed.{used-tags, tags-are}
 
--- "The used part of a table is all records before the first whose tag is not 1."
+-- "The used part of a table is all records before the first whose tag is not" 1 or 2: request [1], "The used part runs over tags 1 and 2."
 module _ (t : List ℕ) where
-  pub tags-used : (i : ℕ) → i < used t → getD t (i * 20 + 13) 0 ≡ 1
-  unfolding usedTag
+  pub tags-used : (i : ℕ) → i < used t → (getD t (i * 20 + 13) 0 ≡ 1) ⊎ (getD t (i * 20 + 13) 0 ≡ 2)
   tags-used i h =
       let r = take 20 (drop (i * 20) t) in
       let tagged : usedTag (tagOf r) ≡ true = subst (λ (x : List ℕ). usedTag (tagOf x) ≡ true) (used-at t i h) (each-at Tagged (usedPart t) (used-tagged t) i h) in
-      sym (getD-take 20 (drop (i * 20) t) 13 0 (omega arith) ∙ getD-drop (i * 20) t 13 0) ∙ eqb-true (tagOf r) 1 tagged
+      let here : tagOf r ≡ getD t (i * 20 + 13) 0 = getD-take 20 (drop (i * 20) t) 13 0 (omega arith) ∙ getD-drop (i * 20) t 13 0 in
+      used-tags (getD t (i * 20 + 13) 0) (rw here at tagged)
 
-  pub tag-behind : used t < room t → getD t (used t * 20 + 13) 0 ≡ 1 → ⊥
-  unfolding usedTag
+  pub tag-behind : used t < room t → (getD t (used t * 20 + 13) 0 ≡ 1) ⊎ (getD t (used t * 20 + 13) 0 ≡ 2) → ⊥
   tag-behind h e =
       let more : usedAmong (drop (used t) (recordsOf t)) ≡ getD (recordsOf t) (used t) [] ∷ usedAmong (drop (used t + 1) (recordsOf t)) =
-      used-more t (used t) h (eq-eqb (getD t (used t * 20 + 13) 0) 1 e) in
+      used-more t (used t) h (tags-are (getD t (used t * 20 + 13) 0) e) in
       let none : usedAmong (drop (used t) (recordsOf t)) ≡ [] = ap usedAmong (records-behind t) ∙ behind-unused t in
       let clash : _≡_ {A = ℕ} 0 (suc (length (usedAmong (drop (used t + 1) (recordsOf t))))) = ap length (sym none ∙ more) in
       absurd (omega arith)

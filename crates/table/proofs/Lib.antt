@@ -1,10 +1,12 @@
 pub mod Keys
 pub mod Places
 pub mod Moves
+pub mod Search
 pub mod Parts
 pub mod Packing
 pub mod Removals
 pub mod Records
+pub mod HalfClosed
 pub mod Finds
 pub mod Stray
 pub mod InBytes

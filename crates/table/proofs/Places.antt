@@ -2,7 +2,7 @@
 use Prim.Native.Nat.{ℕ, zero, suc, _+_, _*_, _-_, _/_, _<_, _≤_}
 use mathlib.Core.Bool.{true, false, cond}
 use mathlib.Core.List.{List, [], _∷_}
-use mathlib.Core.Path.{_≡_, refl, ap, _∙_}
+use mathlib.Core.Path.{_≡_, refl, sym, ap, _∙_}
 use native.Mathlib.Nat.{not-suc-le-zero, le-of-suc-le-suc}
 use native.Mathlib.Numerals.{add-one}
 use native.Mathlib.Omega.{arith}
@@ -10,7 +10,7 @@ use lib.ListN.{length, getD, take, drop, drop-of-length-le, List·getD-eq-defaul
 use lib.Seq.{drop-cons, drop-drop, getD-take, getD-drop, take-take}
 use Rattle.bigendian.specs.BigEndian.{number4At}
 use Rattle.spans.specs.Spans.{same}
-use Rattle.table.specs.Table.{keyOf, usedTag, firstRecords, recordsOf, usedAmong, room, Finding, findAmong, serverAt}
+use Rattle.table.specs.Table.{keyOf, usedTag, firstRecords, recordsOf, usedAmong, room, Finding, findAmong, serverAt, tagAt}
 
 pub length-first : (n : ℕ) (t : List ℕ) → length (firstRecords n t) ≡ n
 unfolding firstRecords
@@ -101,3 +101,18 @@ server-in t (suc i) a n h e =
     let q : a ≡ i * 20 + 16 = omega arith in
     let up : (j : ℕ) → a + j ≡ i * 20 + (16 + j) = λ j. omega arith in
     rw (up 1, up 2, up 3, q, at 16 (omega arith), at 17 (omega arith), at 18 (omega arith), at 19 (omega arith))
+
+-- the tag at a place, likewise
+pub tag-none : (t : List ℕ) → 0 ≡ tagAt 0 t
+unfolding tagAt
+tag-none t = refl
+
+pub tag-out : (t : List ℕ) (place : ℕ) → room t < place → 0 ≡ tagAt place t
+unfolding tagAt
+tag-out t zero h = refl
+tag-out t (suc i) h = rw (List·getD-eq-default (recordsOf t) [] {n = i} (omega (arith, length-records t)))
+
+pub tag-in : (t : List ℕ) (place a : ℕ) → (place ≡ 0 → ⊥) → place ≤ room t → a ≡ (place - 1) * 20 + 13 → getD t a 0 ≡ tagAt place t
+unfolding tagAt
+tag-in t zero a n h e = absurd (n refl)
+tag-in t (suc i) a n h e = let q : a ≡ i * 20 + 13 = omega arith in rw q (sym (record-byte t i (omega arith) 13 (omega arith)))

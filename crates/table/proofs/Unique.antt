@@ -10,7 +10,9 @@ use Rattle.table.specs.Table.{Finding, findingOf}
 use Rattle.table.proofs.used.Reads.{Learnt as used-promise}
 use Rattle.table.proofs.find.Reads.{Learnt as find-promise}
 use Rattle.table.proofs.server_at.Reads.{Learnt as server-at-promise}
+use Rattle.table.proofs.tag_at.Reads.{Learnt as tag-at-promise}
 use Rattle.table.proofs.write_after.Reads.{Learnt as write-after-promise}
+use Rattle.table.proofs.half_close.Reads.{Learnt as half-close-promise}
 use Rattle.table.proofs.remove.Reads.{Learnt as remove-promise}
 use Rattle.table.proofs.remove_server.Reads.{Learnt as remove-server-promise}
 use Rattle.table.proofs.start.Reads.{Learnt as start-promise}
@@ -31,8 +33,14 @@ find-unique κs a x y e e′ p q = told-apart x y (p ∙ sym q)
 pub server-at-unique : (κs : _) (a : _) (x y : ℕ) (e e′ : _) → server-at-promise κs a x e → server-at-promise κs a y e′ → x ≡ y
 server-at-unique κs a x y e e′ p q = cc
 
+pub tag-at-unique : (κs : _) (a : _) (x y : ℕ) (e e′ : _) → tag-at-promise κs a x e → tag-at-promise κs a y e′ → x ≡ y
+tag-at-unique κs a x y e e′ p q = cc
+
 pub write-after-unique : (κs : _) (a : _) (x y : _) (e e′ : _) → write-after-promise κs a x e → write-after-promise κs a y e′ → now (e .0) ≡ now (e′ .0)
 write-after-unique κs a x y e e′ p q = cc
+
+pub half-close-unique : (κs : _) (a : _) (x y : _) (e e′ : _) → half-close-promise κs a x e → half-close-promise κs a y e′ → now (e .0) ≡ now (e′ .0)
+half-close-unique κs a x y e e′ p q = cc
 
 pub remove-unique : (κs : _) (a : _) (x y : _) (e e′ : _) → remove-promise κs a x e → remove-promise κs a y e′ → now (e .0) ≡ now (e′ .0)
 remove-unique κs a x y e e′ p q = cc

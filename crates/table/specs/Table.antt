@@ -1,10 +1,10 @@
 -- Document 01, "Tracking record, 20 bytes: key 13, tag 1, two zero bytes, server 4 big-endian." A table is a list of bytes; what stands
 -- behind its last whole record belongs to no record.
 use Prim.Native.Nat.{ℕ, zero, suc, _+_, _*_, _-_, _/_}
-use mathlib.Core.Bool.{Bool, true, false, cond}
+use mathlib.Core.Bool.{Bool, true, false, cond, _||_}
 use mathlib.Core.List.{List, [], _∷_, _++_, map}
 use lib.Dec.{eqb, ltb}
-use lib.ListN.{length, getD, take, drop, replicate}
+use lib.ListN.{length, getD, set, take, drop, replicate}
 use Rattle.bigendian.specs.BigEndian.{bytes4, number4At}
 use Rattle.spans.specs.Spans.{same, zeroed}
 use Rattle.table.specs.declared.Found.{Found}
@@ -23,9 +23,12 @@ tagOffset = 13
 abbrev pub serverOffset : ℕ
 serverOffset = 16
 
--- the tag of a new record: "tag 1"
+-- the tag of a new record: "tag 1"; and of a half-closed one: request [1], "The first end on a record now sets its tag to 2"
 abbrev pub newTag : ℕ
 newTag = 1
+
+abbrev pub halfClosedTag : ℕ
+halfClosedTag = 2
 
 -- refusal 9: "table length 0, above 65,520 or not a multiple of 20"
 abbrev pub mostTableBytes : ℕ
@@ -41,9 +44,9 @@ tagOf r = getD r tagOffset 0
 abbrev pub serverOf : List ℕ → ℕ
 serverOf r = number4At r serverOffset
 
--- the tags that make a record used
+-- the tags that make a record used: request [1], "The used part runs over tags 1 and 2."
 unfoldable pub usedTag : ℕ → Bool
-usedTag tag = eqb tag newTag
+usedTag tag = eqb tag newTag || eqb tag halfClosedTag
 
 -- the first n records of a table, and all of them
 unfoldable pub firstRecords : ℕ → List ℕ → List (List ℕ)
@@ -53,7 +56,7 @@ firstRecords (suc n) t = take recordBytes t ∷ firstRecords n (drop recordBytes
 unfoldable pub recordsOf : List ℕ → List (List ℕ)
 recordsOf t = firstRecords (length t / recordBytes) t
 
--- "The used part of a table is all records before the first whose tag is not 1."
+-- "The used part of a table is all records before the first whose tag is not" a used one
 unfoldable pub usedAmong : List (List ℕ) → List (List ℕ)
 usedAmong [] = []
 usedAmong (r ∷ rs) = cond (usedTag (tagOf r)) (r ∷ usedAmong rs) []
@@ -92,6 +95,11 @@ unfoldable pub serverAt : ℕ → List ℕ → ℕ
 serverAt zero t = 0
 serverAt (suc i) t = serverOf (getD (recordsOf t) i [])
 
+-- the tag of the record at a place, counted from 1 (0 where the table has no such place)
+unfoldable pub tagAt : ℕ → List ℕ → ℕ
+tagAt zero t = 0
+tagAt (suc i) t = tagOf (getD (recordsOf t) i [])
+
 -- the bytes of records, one after the other
 unfoldable pub bytesOf : List (List ℕ) → List ℕ
 bytesOf [] = []
@@ -123,6 +131,12 @@ without (suc (suc i)) (r ∷ rs) = r ∷ without (suc i) rs
 -- "Removal closes the gap, keeps the order, and zeroes the last formerly used record; later bytes stay." A place outside the used part removes nothing.
 unfoldable pub removed : ℕ → List ℕ → List ℕ
 removed place t = packed (without place (usedPart t)) t
+
+-- request [1], "sets its tag to 2": the tag of the record at a place, counted from 1, becomes 2, and every other byte stays. A place outside
+-- the used part changes nothing.
+unfoldable pub halfClosed : ℕ → List ℕ → List ℕ
+halfClosed zero t = t
+halfClosed (suc i) t = cond (ltb i (used t)) (set t (i * recordBytes + tagOffset) halfClosedTag) t
 
 -- the records that don't name a server
 unfoldable pub notNaming : ℕ → List (List ℕ) → List (List ℕ)

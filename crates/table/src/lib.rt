@@ -7,7 +7,7 @@ ghost use lib.Seq.{paste};
 ghost use mathlib.Core.Bool.{false, cond};
 ghost use lib.Dec.{eqb};
 ghost use Rattle.words.specs.Words.{wordAt, BytesAt};
-ghost use Rattle.table.specs.Table.{usedTag, used as used-of, find as find-of, findingOf, serverAt, newRecord, writtenAfter, removed, removedServer, started, recordBytes, keyBytes};
+ghost use Rattle.table.specs.Table.{usedTag, used as used-of, recordsOf, usedAmong, findAmong, find as find-of, findingOf, serverAt, tagAt, newRecord, writtenAfter, halfClosed, removed, removedServer, started, recordBytes, keyBytes};
 
 // A tracking record's bytes: the key, the tag, two zeros, the server's four bytes.
 pub const RECORD_BYTES: usize = 20;
@@ -23,6 +23,9 @@ pub const SERVER_OFFSET: usize = 16;
 
 // The tag of a new record.
 pub const NEW_TAG: u8 = 1;
+
+// The tag of a half-closed record: its first end has come.
+pub const HALF_CLOSED_TAG: u8 = 2;
 
 // The longest table: 3,276 records.
 pub const MOST_TABLE_BYTES: usize = 65520;
@@ -57,7 +60,8 @@ pub fn used(table: &[u8]) -> usize
     i
 }
 
-// The first used record with a key. The loop counts bytes, and only its end counts records: so it has one number to carry.
+// The first used record with a key. The records before the first half-closed one are passed here, where one tag is asked for: that is one
+// comparison. From there on `find_from` goes on. The loop counts bytes, and only its end counts records: so it has one number to carry.
 pub fn find(table: &[u8], key: [u8; KEY_BYTES]) -> Found
     ensures { λ r. ⌜ findingOf r ≡ find-of key (now (table .entry)) ⌝ }
 {
@@ -66,8 +70,8 @@ pub fn find(table: &[u8], key: [u8; KEY_BYTES]) -> Found
     let end = table.len() / RECORD_BYTES * RECORD_BYTES;
     let mut at = 0;
     while at < end {
-        if !used_tag(table[at + TAG_OFFSET]) {
-            return Found::Nothing(at / RECORD_BYTES);
+        if table[at + TAG_OFFSET] != NEW_TAG {
+            return find_from(table, at / RECORD_BYTES, key);
         }
         if has_words(table, at, front, back) {
             return Found::At(at / RECORD_BYTES + 1);
@@ -91,6 +95,19 @@ pub fn server_at(table: &[u8], place: usize) -> u32
     bigendian::join4(table[at], table[at + 1], table[at + 2], table[at + 3])
 }
 
+// The tag of the record at a place, 0 where there is no such place.
+pub fn tag_at(table: &[u8], place: usize) -> u8
+    ensures { λ r. ⌜ r ≡ tagAt place (now (table .entry)) ⌝ }
+{
+    if place == 0 {
+        return 0;
+    }
+    if table.len() / RECORD_BYTES < place {
+        return 0;
+    }
+    table[(place - 1) * RECORD_BYTES + TAG_OFFSET]
+}
+
 // Writes a new record behind the first n; where n is the number of used records, that is the first
 // unused place. A table without that place stays as it is.
 pub fn write_after(table: &mut [u8], n: usize, key: [u8; KEY_BYTES], server: u32)
@@ -102,6 +119,20 @@ pub fn write_after(table: &mut [u8], n: usize, key: [u8; KEY_BYTES], server: u32
     let a = n * RECORD_BYTES;
     let e = a + RECORD_BYTES;
     put(&mut table[a..e], key, server);
+}
+
+// Half-closes the record at a place: its tag becomes 2. A place outside the used part changes nothing.
+pub fn half_close(table: &mut [u8], place: usize)
+    ensures { λ _. ⌜ now (table .exit) ≡ halfClosed place (now (table .entry)) ⌝ }
+{
+    let n = used(table);
+    if place == 0 {
+        return;
+    }
+    if n < place {
+        return;
+    }
+    table[(place - 1) * RECORD_BYTES + TAG_OFFSET] = HALF_CLOSED_TAG;
 }
 
 // Takes the record at a place away and closes the gap. A place outside the used part removes nothing.
@@ -148,7 +179,31 @@ pub fn start(table: &mut [u8])
 fn used_tag(tag: u8) -> bool
     ensures { λ r. ⌜ r ≡ usedTag tag ⌝ }
 {
-    tag == NEW_TAG
+    if tag == NEW_TAG {
+        return true;
+    }
+    tag == HALF_CLOSED_TAG
+}
+
+// The first used record with a key among those from index i on, counted from 0.
+fn find_from(table: &[u8], i: usize, key: [u8; KEY_BYTES]) -> Found
+    requires { ⌜ i * recordBytes ≤ length (now table) ⌝ }
+    ensures { λ r. ⌜ findingOf r ≡ findAmong key i (usedAmong (drop i (recordsOf (now (table .entry))))) ⌝ }
+{
+    let front = word_at(&key, 0);
+    let back = word_at(&key, 5);
+    let end = table.len() / RECORD_BYTES * RECORD_BYTES;
+    let mut at = i * RECORD_BYTES;
+    while at < end {
+        if !used_tag(table[at + TAG_OFFSET]) {
+            return Found::Nothing(at / RECORD_BYTES);
+        }
+        if has_words(table, at, front, back) {
+            return Found::At(at / RECORD_BYTES + 1);
+        }
+        at += RECORD_BYTES;
+    }
+    Found::Nothing(at / RECORD_BYTES)
 }
 
 // Copies a key to the front of a span.

@@ -1,27 +1,25 @@
--- `table::find` meets its contract. In the loop, looking from the present place on gives the whole answer, whichever key has these two words.
--- The place is counted in bytes, a multiple of 20.
-use Prim.Native.Nat.{ℕ, _*_, _+_, _≤_, _-_, _/_, _%_}
-use mathlib.Core.Bool.{true, false}
-use mathlib.Core.List.{List}
-use mathlib.Core.Path.{_≡_, refl, sym, _∙_}
+use Prim.Native.Nat.{_≤_, _-_, _+_}
+use mathlib.Core.Logic.{inl}
+use mathlib.Core.Path.{_∙_}
 use native.Mathlib.Omega.{arith}
-use lib.ListN.{length, take, drop}
-use borrow.Author.Tests.{not-true, not-false}
+use lib.ListN.{getD}
+use Rattle.table.proofs.Keys.{Spelt}
+use Rattle.table.proofs.Search.{Come, from-first, come-first, come-end, come-here, come-on}
+use Rattle.table.proofs.HalfClosed.{tags-are}
 use borrow.Author.Needs.{needs}
-use Rattle.spans.specs.Spans.{same}
-use Rattle.table.specs.Table.{usedAmong, usedPart, find, findAmong, recordsOf}
-use Rattle.table.proofs.Keys.{Spelt, spelt-same}
-use Rattle.table.proofs.Places.{find-stop, find-here, find-more, find-end}
 use Rattle.table.proofs.find.Statement.{statement}
 use Rattle.table.proofs.find.Tie as tie
+use Rattle.table.proofs.find.Reads as reads
+use Rattle.table.proofs.find.Lts as lts
+use Rattle.table.proofs.find_from.Reads as find-from-reads
+use Rattle.table.proofs.has_words.Reads as has-words-reads
+use Rattle.table.proofs.word_at.Reads as word-at-reads
 
 abbrev Inv-loop : tie.InvT-loop
-Inv-loop table front back end at₀ at =
-    (at ≤ end) × (at % 20 ≡ 0)
-    × ((key : List ℕ) → Spelt key front back → findAmong key (at / 20) (usedAmong (drop (at / 20) (recordsOf table))) ≡ find key table)
+Inv-loop table key front back end at₀ at = (at ≤ end) × Come table 0 front back at
 
 abbrev μ-loop : tie.MeasureT-loop
-μ-loop table front back end at₀ at = end - at
+μ-loop table key front back end at₀ at = end - at
 
 -- the numbers formed before the loop are the key's words
 spelt : (w : tie.After-word-at2 Inv-loop μ-loop)
@@ -35,99 +33,96 @@ spelt w =
       back-bytes = w .word-at2 .ensures .1;
     }
 
--- a whole number of records
-whole-records : (at : ℕ) → at % 20 ≡ 0 → at / 20 * 20 ≡ at
-whole-records at h = omega arith
-
+-- src/lib.rt:68:25
 slice-aggregate-word-at : tie.Need-slice-aggregate-word-at Inv-loop μ-loop
 slice-aggregate-word-at c = search needs
 
+-- src/lib.rt:68:9
 word-at-requires : tie.Need-word-at-requires Inv-loop μ-loop
 word-at-requires c κs = search needs
 
+-- src/lib.rt:69:24
 slice-aggregate-word-at-2 : tie.Need-slice-aggregate-word-at-2 Inv-loop μ-loop
 slice-aggregate-word-at-2 c = search needs
 
+-- src/lib.rt:69:9
 word-at-requires-2 : tie.Need-word-at-requires-2 Inv-loop μ-loop
 word-at-requires-2 c κs = search needs
 
+-- src/lib.rt:70:15
 mul-end : tie.Need-mul-end Inv-loop μ-loop
 mul-end c = search needs
 
+-- src/lib.rt:72:5
 loop-holds : tie.Need-loop-holds Inv-loop μ-loop
-unfolding find usedPart
-loop-holds c = (search needs, search needs, λ key k. refl)
+loop-holds c =
+    let p = c .before .before .before .before .before .args in
+    (omega arith, come-first (p .table .now) 0 _ _)
 
-add-used-tag : tie.Need-add-used-tag Inv-loop μ-loop
-add-used-tag c = search needs
+-- src/lib.rt:73:18
+add-if1 : tie.Need-add-if1 Inv-loop μ-loop
+add-if1 c = search needs
 
-shared-slice-read-used-tag : tie.Need-shared-slice-read-used-tag Inv-loop μ-loop
-shared-slice-read-used-tag c = search needs
+-- src/lib.rt:73:12
+shared-slice-read-if1 : tie.Need-shared-slice-read-if1 Inv-loop μ-loop
+shared-slice-read-if1 c = search needs
 
-used-tag-requires : tie.Need-used-tag-requires Inv-loop μ-loop
-used-tag-requires c κs = search needs
+-- src/lib.rt:74:13
+find-from-requires : tie.Need-find-from-requires Inv-loop μ-loop
+find-from-requires c κs = omega (arith, c .before .before .before .loop .inv .1 .whole)
 
+-- src/lib.rt:74:13
 returns : tie.Need-returns Inv-loop μ-loop
 returns c =
     let l = c .before .before .before .before in
     let w = l .before in
     let p = w .before .before .before .before .before .args in
-    let tag = sym (c .before .used-tag .ensures) ∙ not-true _ (c .if1 .taken) in
-    find-stop (p .table .now) (l .loop .at / 20) (omega arith) (p .t2) _ (l .loop .inv .2 (p .t2) (spelt w))
-    (rw (whole-records (l .loop .at) (l .loop .inv .1)) tag)
+    c .find-from .ensures ∙ l .loop .inv .1 .so (p .t2) (spelt w) ∙ from-first (p .table .now) (p .t2)
 
+-- src/lib.rt:76:12
 has-words-requires : tie.Need-has-words-requires Inv-loop μ-loop
 has-words-requires c κs = search needs
 
+-- src/lib.rt:77:30
 add-t22 : tie.Need-add-t22 Inv-loop μ-loop
 add-t22 c = search needs
 
+-- src/lib.rt:77:13
 returns-2 : tie.Need-returns-2 Inv-loop μ-loop
 returns-2 c =
-    let l = c .before .before .before .before .before .before in
+    let u = c .before .before in
+    let l = u .before .before .before in
     let w = l .before in
     let p = w .before .before .before .before .before .args in
-    let u = c .before .before in
-    let h = c .before .has-words .ensures in
-    let tag = sym (u .before .used-tag .ensures) ∙ not-false _ (u .if1 .left) in
-    let here : same (take 13 (drop (l .loop .at) (p .table .now))) (p .t2) ≡ true =
-    spelt-same (p .table .now) (p .t2) (l .loop .at) _ _ _ (spelt w) (omega arith) (h .1 .0) (h .1 .1) (h .0) ∙ c .if2 .taken in
-    find-here (p .table .now) (l .loop .at / 20) (omega arith) (p .t2) _ (l .loop .inv .2 (p .t2) (spelt w))
-    (rw (whole-records (l .loop .at) (l .loop .inv .1)) tag)
-    (rw (whole-records (l .loop .at) (l .loop .inv .1)) here)
+    let tag = tags-are (getD (p .table .now) (l .loop .at + 13) 0) (inl (omega (arith, u .if1 .left))) in
+    come-here (p .table .now) 0 _ _ (l .loop .at) (l .loop .inv .1) (omega arith) tag _ (c .before .has-words .ensures) (c .if2 .taken) (p .t2) (spelt w)
+    ∙ from-first (p .table .now) (p .t2)
 
+-- src/lib.rt:79:9
 add-at : tie.Need-add-at Inv-loop μ-loop
 add-at c = search needs
 
+-- src/lib.rt:72:5
 loop-less : tie.Need-loop-less Inv-loop μ-loop
 loop-less c = search needs
 
+-- src/lib.rt:72:5
 loop-again : tie.Need-loop-again Inv-loop μ-loop
 loop-again c =
     let u = c .before .before in
-    let l = u .before .before .before .before in
-    let w = l .before in
-    let t = w .before .before .before .before .before .args .table .now in
-    let h = c .before .has-words .ensures in
-    let tag = sym (u .before .used-tag .ensures) ∙ not-false _ (u .if1 .left) in
-    let next : (l .loop .at + 20) / 20 ≡ l .loop .at / 20 + 1 = omega arith in (
-      omega arith,
-      omega arith,
-      λ key k.
-          let here : same (take 13 (drop (l .loop .at) t)) key ≡ false =
-          spelt-same t key (l .loop .at) _ _ _ k (omega arith) (h .1 .0) (h .1 .1) (h .0) ∙ c .if2 .left in
-          rw next
-          (find-more t (l .loop .at / 20) (omega arith) key _ (l .loop .inv .2 key k)
-          (rw (whole-records (l .loop .at) (l .loop .inv .1)) tag)
-          (rw (whole-records (l .loop .at) (l .loop .inv .1)) here)),
-    )
+    let l = u .before .before .before in
+    let p = l .before .before .before .before .before .before .args in
+    let tag = tags-are (getD (p .table .now) (l .loop .at + 13) 0) (inl (omega (arith, u .if1 .left))) in
+    (omega (arith, l .loop .inv .1 .whole), come-on (p .table .now) 0 _ _ (l .loop .at) (l .loop .inv .1) (omega arith) tag _ (c .before .has-words .ensures) (c .if2 .left))
 
+-- src/lib.rt:65:1
 returns-3 : tie.Need-returns-3 Inv-loop μ-loop
 returns-3 c =
     let l = c .before in
     let w = l .before in
     let p = w .before .before .before .before .before .args in
-    find-end (p .table .now) (l .loop .at / 20) (omega arith) (p .t2) _ (l .loop .inv .2 (p .t2) (spelt w))
+    come-end (p .table .now) 0 _ _ (l .loop .at) (l .loop .inv .1) (omega arith) (p .t2) (spelt w)
+    ∙ from-first (p .table .now) (p .t2)
 
 pub find-spec : {M : Type 1} → statement M
 find-spec =
@@ -141,9 +136,9 @@ find-spec =
     word-at-requires-2
     mul-end
     loop-holds
-    add-used-tag
-    shared-slice-read-used-tag
-    used-tag-requires
+    add-if1
+    shared-slice-read-if1
+    find-from-requires
     returns
     has-words-requires
     add-t22
