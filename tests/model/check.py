@@ -295,7 +295,7 @@ def check_along(history, records=3276, dirt=0):
             assert new[0] == old[0][:room] + line + old[0][room + 20:]
         if reply.mark == 4:
             assert used_before == records and new[0] == old[0]
-            seen["4 beside a half-closed record"] += bool(shadow.half_closed())
+            seen["4 beside half-closed"] += bool(shadow.half_closed())
         if reply.mark == 8:
             tag = 20 * reply.reads - 7
             assert old[0][tag] == 1 and new[0] == old[0][:tag] + b"\2" + old[0][tag + 1:]
