@@ -1,6 +1,6 @@
 #!/usr/bin/env python3
-"""What the programs test_cases, test_vectors and program_bench must print, worked out from the sentences of document 01 and, where [1]
-stands before them, of request [1] of document 02.
+"""What the programs test_cases, test_vectors and program_bench must print, worked out from the sentences of document 01
+and, where [1] stands before them, of request [1] of document 02.
 
     python3 tests/independent.py cases   | cmp - crates/test_cases/stdout
     python3 tests/independent.py vectors | cmp - crates/test_vectors/stdout

@@ -67,7 +67,7 @@ class Shadow:
         self.records = records
         self.working, self.horizon = set(), set()
         self.list = []                      # (key, server) in the order of the table
-        self.closed = Counter()             # ends of a recorded key since its record was written
+        self.closed = Counter()             # key -> ends since its record was written
         self.method, self.row_count = HRW, 0
 
     def at(self, key):
@@ -195,7 +195,7 @@ class Pairs:
     def __init__(self):
         self.last, self.asked = {}, 0       # key -> (mover, servers held then)
         self.written = {}                   # key -> [mover of its record, ends since]
-        self.ended, self.over = set(), 0    # keys ended since their last packet; pairs with that
+        self.ended, self.over = set(), 0    # keys ended since their packet; such pairs
 
     def end(self, key):
         """An accepted end: who is still covered after it."""

@@ -98,7 +98,8 @@ def closing():
     s = Script()
     for method, row_count in METHODS:
         n = Numbers(80 + method)
-        keys, safe = keys_that(True, 14, method, row_count, n), keys_that(False, 1, method, row_count, n)[0]
+        keys = keys_that(True, 14, method, row_count, n)
+        safe = keys_that(False, 1, method, row_count, n)[0]
         open_door(s, method, row_count)
         step_by_step(s, keys[0], safe)
         side_by_side(s, keys[:6], safe)
@@ -112,7 +113,8 @@ def closings():
     s, n = Script(), Numbers(8)
     for turn in range(9):
         method, row_count = METHODS[turn % 3]
-        keys = keys_that(True, 6 + 3 * (turn // 3), method, row_count, n) + keys_that(False, 2, method, row_count, n)
+        keys = keys_that(True, 6 + 3 * (turn // 3), method, row_count, n)
+        keys += keys_that(False, 2, method, row_count, n)
         open_door(s, method, row_count)
         for _ in range(350):
             roll = n.below(100)
