@@ -1,6 +1,6 @@
-/* The balancer of document 01 in plain C: the same algorithm and the same data as the Rattle program (linear scan of the
- * table, since a reply says how many records were read; soundness of the roster at every event). session.c and twin.c
- * drive it. */
+/* The balancer of documents 01 and 02 in plain C: the same algorithm and the same data as the Rattle program (linear scan
+ * of the table, since a reply says how many records were read; soundness of the roster at every event). session.c and
+ * twin.c drive it. */
 #include "parts.h"
 
 static inline Reply refused(unsigned number) { return (Reply){ number, 0, 0, 0 }; }
@@ -43,6 +43,11 @@ static inline Reply end(Balancer *b, const uint8_t *key)
     Found found = find(b->table, key);
     if (!found.known)
         return accepted(0, 6, found.reads);
+    uint8_t *tag = b->table + (found.reads - 1) * RECORD + TAG;
+    if (*tag == OPEN) {
+        *tag = HALF_CLOSED;
+        return accepted(0, 8, found.reads);
+    }
     remove_place(b->table, found.reads);
     return accepted(0, 5, found.reads);
 }

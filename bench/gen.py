@@ -4,8 +4,8 @@
 
 Configure METHOD with ROWS; WORKING servers put to work and HORIZON more in the horizon (numbers drawn from the
 whole range); one packet for each of POOL connections; then EVENTS mixed events: 95.4 % packets of a connection of the
-pool, 4 % the end of one, which a new connection then replaces, 0.5 % ends of unknown keys, 0.1 % damaged records, and
-every EVERY (10,000) events a roster change that is taken back EVERY / 50 events later (a working server out and in
+pool, 4 % ends of one: after its first it still sends packets, after its second a new connection replaces it; 0.5 % ends
+of unknown keys, 0.1 % damaged records, and every EVERY (10,000) events a roster change that is taken back EVERY / 50 events later (a working server out and in
 again, or a horizon server off and on; EVERY 2: nothing but changes). KEYS is random (13 random bytes), clients (sources 10.1.x.x, one target, port 443, TCP) or gateway
 (one source and one target, only the ports differ).
 
@@ -45,6 +45,7 @@ out += [server(5, s) for s in servers]
 out += [server(3, s) for s in servers[:working]]
 live = [key() for _ in range(pool)]
 out += [b"\x01\0\0" + k for k in live]
+half_closed = set()
 back, change = None, 0
 for n in range(1, events + 1):
     if n % every == every // 2 and working > 1 and horizon > 0:
@@ -66,7 +67,9 @@ for n in range(1, events + 1):
     if d < 40:
         i = below(pool)
         out.append(b"\x02\0\0" + live[i])
-        live[i] = key()
+        if i in half_closed:
+            live[i] = key()
+        half_closed ^= {i}
     elif d < 45:
         out.append(b"\x02\0\0" + key())
     elif d < 46:

@@ -1,5 +1,5 @@
-/* What the balancer of document 01 is made of, in plain C, written from its sentences: hashes, the table, the roster, the
- * three methods (each weight once; positions hashed once for a change). */
+/* What the balancer of documents 01 and 02 is made of, in plain C, written from their sentences: hashes, the table, the
+ * roster, the three methods (each weight once; positions hashed once for a change). */
 #include "libc.h"
 
 enum { RECORD = 20, PLACES = 3276, SERVERS = 64, ROWS = 4096 };
@@ -58,10 +58,18 @@ static inline uint32_t position(uint32_t server)
 
 /* ---- the table: 13 bytes key, tag, two zeros, server */
 
+enum { TAG = 13, OPEN = 1, HALF_CLOSED = 2 };
+
+static inline bool used_at(const uint8_t *table, size_t i)
+{
+    uint8_t tag = table[i * RECORD + TAG];
+    return tag == OPEN || tag == HALF_CLOSED;
+}
+
 static inline size_t used(const uint8_t *table)
 {
     size_t i = 0;
-    while (i < PLACES && table[i * RECORD + 13] == 1)
+    while (i < PLACES && used_at(table, i))
         i++;
     return i;
 }
@@ -72,7 +80,7 @@ typedef struct { bool known; size_t reads; } Found;
 static inline Found find(const uint8_t *table, const uint8_t *key)
 {
     size_t i;
-    for (i = 0; i < PLACES && table[i * RECORD + 13] == 1; i++)
+    for (i = 0; i < PLACES && used_at(table, i); i++)
         if (memcmp(table + i * RECORD, key, 13) == 0)
             return (Found){ true, i + 1 };
     return (Found){ false, i };
@@ -81,7 +89,7 @@ static inline Found find(const uint8_t *table, const uint8_t *key)
 static inline void write_record(uint8_t *at, const uint8_t *key, uint32_t server)
 {
     memcpy(at, key, 13);
-    at[13] = 1, at[14] = 0, at[15] = 0;
+    at[TAG] = OPEN, at[14] = 0, at[15] = 0;
     split4(at + 16, server);
 }
 

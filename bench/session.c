@@ -1,4 +1,4 @@
-/* The session program of document 01 in plain C over engine.h: input and output in blocks of 65,536 bytes. */
+/* The session program of documents 01 and 02 in plain C over engine.h: input and output in blocks of 65,536 bytes. */
 #include "engine.h"
 
 enum { BLOCK = 65536 };

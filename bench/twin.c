@@ -1,4 +1,4 @@
-/* The benchmark's program in plain C: the same events as crates/program_bench, through the engine of document 01. */
+/* The benchmark's program in plain C: the same events as crates/program_bench, through engine.h. */
 #include "engine.h"
 #include "load.h"
 

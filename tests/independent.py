@@ -1,5 +1,6 @@
 #!/usr/bin/env python3
-"""What the programs test_cases, test_vectors and program_bench must print, worked out from the sentences of document 01.
+"""What the programs test_cases, test_vectors and program_bench must print, worked out from the sentences of document 01
+and, where [1] stands before them, of request [1] of document 02.
 
     python3 tests/independent.py cases   | cmp - crates/test_cases/stdout
     python3 tests/independent.py vectors | cmp - crates/test_vectors/stdout
@@ -117,13 +118,23 @@ class Table:
         return b"".join(self.places) + self.rest
 
     def used(self):
-        """"all records before the first whose tag is not 1" """
+        """"all records before the first whose tag is not 1". [1]: "The used part runs over tags 1 and 2." """
         n = 0
         for p in self.places:
-            if p[13] != 1:
+            if p[13] not in (1, 2):
                 break
             n += 1
         return n
+
+    def tag(self, place):
+        """The tag at a place counted from 1; 0 where there is no such place."""
+        return self.places[place - 1][13] if 1 <= place <= len(self.places) else 0
+
+    def half_close(self, place):
+        """[1]: "The first end on a record now sets its tag to 2"; there is no record outside the used part"""
+        if 1 <= place <= self.used():
+            p = self.places[place - 1]
+            self.places[place - 1] = p[:13] + bytes([2]) + p[14:]
 
     def find(self, key):
         """"A key's record is the first used one with that key."; places are counted from 1"""
@@ -176,6 +187,8 @@ def change(t, op, n):
         t.append(key_of(n[0]), server_of(n[0]))
     elif op == "remove":
         t.remove(n[0])
+    elif op == "close":
+        t.half_close(n[0])
     elif op == "leave":
         t.remove_server(n[0])
     elif op == "poke":              # someone else's hand: one byte
@@ -188,6 +201,8 @@ def outcome(t, op, n):
     """What a step shows."""
     if op == "used":
         return f" {t.used()}"
+    if op == "which":
+        return f" {t.tag(n[0])}"
     if op == "key":
         p = t.find(key_of(n[0]))
         if p is None:

@@ -1,10 +1,12 @@
 #!/usr/bin/env python3
 """A night at the front door, to try the estimates of docs/FIGURES.md on: 27,000 sessions are alive at any time, each for two hours, and
 send a packet every twenty minutes. 14 movers work and 2 stand by, under HRW. It lasts eight hours; one standby joins after four, the other
-after six. The two hours before it fill the table.
+after six. The two hours before it fill the table. A session has two ends, one for each side: both when it is over, or, where 60 stands
+before the word, the first an hour earlier (20, 40 .. 100: as many minutes earlier).
 
     python3 tests/night.py events | ./jet session | python3 tests/night.py count      what the balancer did
-    python3 tests/night.py                                                            what it has to do, by document 01's sentences
+    python3 tests/night.py                                                            what it has to do, by the documents' sentences
+    python3 tests/night.py 60 events | ./jet session | python3 tests/night.py 60 count; python3 tests/night.py 60
 
 Both print the same line: sessions of the night, packets, packets with mark 4, sessions that met it, and for each join how many sessions
 had no record for lack of room when it came, and how many were led elsewhere because of it.
@@ -17,6 +19,7 @@ from independent import F
 LIVE, LIFE, EVERY = 27000, 120, 20
 WORKING, MOVERS = 14, drawn(Stream(2), 16)
 FIRST, NIGHT, JOINS = -LIFE, 480, {240: 14, 360: 15}
+APART = int("".join(w for w in sys.argv[1:2] if w.isdigit()) or 0)
 
 
 def night():
@@ -32,6 +35,8 @@ def night():
         for slot in range(minute % EVERY, LIFE, EVERY):
             for i in range(LIVE // LIFE):
                 seat = slot, i
+                if seat in alive and (minute + APART) % LIFE == slot:
+                    yield minute, 2, alive[seat]
                 if minute % LIFE == slot:
                     if seat in alive:
                         yield minute, 2, alive[seat]
@@ -64,7 +69,7 @@ class Count:
 
     def __init__(self):
         self.sessions, self.met, self.packets, self.fours = set(), set(), 0, 0
-        self.last, self.without, self.joins = {}, set(), []
+        self.last, self.without, self.joins, self.half_closed = {}, set(), [], set()
 
     def joined(self):
         self.joins.append([len(self.without), 0])
@@ -82,8 +87,10 @@ class Count:
                 self.met.add(n)
 
     def end(self, n):
-        self.last.pop(n)
-        self.without.discard(n)
+        if n in self.half_closed:
+            self.last.pop(n)
+            self.without.discard(n)
+        self.half_closed ^= {n}
 
     def show(self):
         print(len(self.sessions), self.packets, self.fours, len(self.met), *(x for j in self.joins for x in j))
@@ -103,8 +110,10 @@ def follow(answers):
 
 
 def expected():
-    """"if the key has a record, its server. Otherwise the choice over the working set"; "recorded where there is room". """
-    keys, works, records, ranked = Keys(), [False] * len(MOVERS), {}, {}
+    """"if the key has a record, its server. Otherwise the choice over the working set"; "recorded where there is room". Request [1]:
+    "The first end on a record now sets its tag to 2 .. the next end removes it". So a record that is written between a session's two
+    ends stays when the session is over."""
+    keys, works, records, tags, ranked = Keys(), [False] * len(MOVERS), {}, {}, {}
     for _, kind, n in night():
         if kind == 1:
             if n not in ranked:
@@ -112,12 +121,13 @@ def expected():
             place = records.get(n, next(p for p in ranked[n] if works[p]))
             mark = 1 if n in records else 2 if place == ranked[n][0] else 3 if len(records) < PLACES else 4
             if mark == 3:
-                records[n] = place
+                records[n], tags[n] = place, 1
             yield MOVERS[place], mark
         else:
-            if kind == 2:
-                records.pop(n, None)
-                ranked.pop(n)
+            if kind == 2 and tags.get(n) == 1:
+                tags[n] = 2
+            elif kind == 2 and n in tags:
+                del records[n], tags[n]
             elif kind == 3:
                 works[n] = True
             yield 0, 0
@@ -132,4 +142,5 @@ def printed():
 
 
 if __name__ == "__main__":
-    {"": lambda: follow(expected()), "events": events, "count": lambda: follow(printed())}["".join(sys.argv[1:])]()
+    words = [w for w in sys.argv[1:] if not w.isdigit()]
+    {"": lambda: follow(expected()), "events": events, "count": lambda: follow(printed())}["".join(words)]()

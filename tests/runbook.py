@@ -135,7 +135,7 @@ P = packets(K)
 def restart_after_a_day():
     for method, rows in METHODS:
         work, stand = [1, 2, 4, 5, 6, 7, 8, 9], [3, 10]
-        day = [roster(WORK, STAND, method, rows), P[:700], add_working(9), P[300:], remove_working(3), P[:900], ends(K[:50]), P]
+        day = [roster(WORK, STAND, method, rows), P[:700], add_working(9), P[300:], remove_working(3), P[:900], ends(K[:50] + K[:25]), P]
         parts = run(*day, P)
         accepted(*parts)
         before, unbroken = parts[-2], parts[-1]
@@ -260,8 +260,11 @@ def ends_free_places():
     gone, waiting = sorted(marked(first, 3))[:40:4], sorted(marked(first, 4))
     opposite = [k[4:8] + k[:4] + k[10:12] + k[8:10] + k[12:] for k in (MANY[i] for i in gone)]
     asking = packets(MANY[i] for i in waiting)
-    _, none, freed, asked, again = full(ends(opposite), ends(MANY[i] for i in gone), asking, asking)
+    side = ends(MANY[i] for i in gone)
+    _, none, closed, still, freed, asked, again = full(ends(opposite), side, asking, side, asking, asking)
     assert [(line.mark, line.used) for line in none] == [(6, PLACES)] * 10
+    assert [(line.mark, line.used) for line in closed] == [(8, PLACES)] * 10
+    assert [line.mark for line in still] == [4] * len(waiting)
     assert [(line.mark, line.used) for line in freed] == [(5, PLACES - n) for n in range(1, 11)]
     assert [line.mark for line in asked] == [3] * 10 + [4] * (len(waiting) - 10)
     assert [line.mark for line in again] == [1] * 10 + [4] * (len(waiting) - 10)
@@ -292,8 +295,9 @@ def restart_with_fewer_standbys():
 
 @says("A lost end can be sent late", "A live one loses its record, as in a restart")
 def late_end_of_a_live_session():
-    parts = run(roster(WORK, STAND), P, add_working(9), P, ends(K), P)
-    before, after = parts[3], parts[5]
+    parts = run(roster(WORK, STAND), P, add_working(9), P, ends(K), P, ends(K), P)
+    before, closed, after = parts[3], parts[5], parts[7]
+    assert not moved(before, closed), "one end alone moves nobody"
     assert moved(before, after) == {i for i in marked(before, 1) if choice(K[i], WORK + [9]) != before[i].server} != set()
 
 
@@ -387,7 +391,7 @@ def out_of_step():
 
 @says("Used is always marks 3 less marks 5 less the records of movers that stopped")
 def used_records():
-    day = roster(WORK, STAND) + P[:600] + ends(K[:300:3]) + add_working(9) + P + remove_working(2, 9) + P[500:] + ends(K[::7]) + P
+    day = roster(WORK, STAND) + P[:600] + ends(K[:300:3] + K[:300:6]) + add_working(9) + P + remove_working(2, 9) + P[500:] + ends(K[::7]) + P
     records = {}
     for event, line in zip(day, run(day)[0]):
         k = event[3:]

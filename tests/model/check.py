@@ -1,8 +1,8 @@
 """Assertions along a history, by a second and slow definition.
 
 Nothing here calls the model's hashes, ranking, table or refusals: the sets are plain
-sets, the records a list of pairs, the ranking a full sort. Quotations: document 01,
-DEMANDS.md where said.
+sets, the records a list of pairs with the ends heard of each, the ranking a full sort.
+Quotations: document 01, document 02's request [1] and DEMANDS.md where said.
 """
 from collections import Counter
 from itertools import combinations
@@ -67,6 +67,7 @@ class Shadow:
         self.records = records
         self.working, self.horizon = set(), set()
         self.list = []                      # (key, server) in the order of the table
+        self.closed = Counter()             # key -> ends since its record was written
         self.method, self.row_count = HRW, 0
 
     def at(self, key):
@@ -76,6 +77,15 @@ class Shadow:
 
     def place(self, key):
         return next((n for n, (k, _) in enumerate(self.list, 1) if k == key), 0)
+
+    def half_closed(self):
+        """[1]: "The first end on a record now sets its tag to 2": one end heard, not two."""
+        return {k for k, _ in self.list if self.closed[k] == 1}
+
+    def keep(self, kept):
+        """The list after some records went; what was heard of theirs goes with them."""
+        self.list = kept
+        self.closed = Counter({k: self.closed[k] for k, _ in kept})
 
     def refused(self, record):
         if len(record) != 16 or record[0] not in range(1, 8) or record[1:3] != b"\0\0":
@@ -122,7 +132,11 @@ class Shadow:
             self.list.append((key, chosen))
             return (0, chosen, 3, used)
         if kind == 2 and place:
-            del self.list[place - 1]
+            # [1]: "The first end on a record .. gives mark 8; the next end removes it"
+            self.closed[key] += 1
+            if self.closed[key] == 1:
+                return (0, 0, 8, place)
+            self.keep(self.list[:place - 1] + self.list[place:])
             return (0, 0, 5, place)
         if kind == 2:
             return (0, 0, 6, used)
@@ -132,7 +146,7 @@ class Shadow:
         if kind == 4:
             self.working.remove(server)
             self.horizon.add(server)
-            self.list = [pair for pair in self.list if pair[1] != server]
+            self.keep([pair for pair in self.list if pair[1] != server])
         if kind == 5:
             self.horizon.add(server)
         if kind == 6:
@@ -173,25 +187,46 @@ class Pairs:
     """DEMANDS 3: "two successive packets of one key get the same mover, provided that
     mover worked throughout, the key wasn't ended between them, every mover brought into
     work between them was already working or in the horizon at the earlier packet, and
-    the earlier packet wasn't told there was no room"."""
+    the earlier packet wasn't told there was no room". [1]: the "proviso about ends
+    becomes: fewer than two since the key's record was written, and none for a key
+    without one". It goes by events and replies alone: a record is written at mark 3, and
+    has gone once its mover left work or two ends came."""
 
     def __init__(self):
         self.last, self.asked = {}, 0       # key -> (mover, servers held then)
+        self.written = {}                   # key -> [mover of its record, ends since]
+        self.ended, self.over = set(), 0    # keys ended since their packet; such pairs
+
+    def end(self, key):
+        """An accepted end: who is still covered after it."""
+        if key in self.written:
+            self.written[key][1] += 1
+            if self.written[key][1] < 2:
+                self.ended.add(key)
+                return
+            del self.written[key]
+        self.last.pop(key, None)
 
     def note(self, record, reply, before, after, held):
         gained = after - before
         if gained or before - after:
             self.last = {k: (m, h) for k, (m, h) in self.last.items()
                          if m in after and gained <= h}
+            self.written = {k: w for k, w in self.written.items() if w[0] in after}
+        key = record[3:]
         if reply[0] == 0 and record[0] == 2:
-            self.last.pop(record[3:], None)
+            self.end(key)
         if len(record) == 16 and record[:3] == b"\1\0\0":
-            if record[3:] in self.last:
+            if key in self.last:
                 self.asked += 1
-                assert reply[:2] == (0, self.last[record[3:]][0]), "another mover"
-            self.last.pop(record[3:], None)
+                self.over += key in self.ended
+                assert reply[:2] == (0, self.last[key][0]), "another mover"
+            self.last.pop(key, None)
+            self.ended.discard(key)
+            if reply[0] == 0 and reply[2] == 3:
+                self.written[key] = [reply[1], 0]
             if reply[0] == 0 and reply[2] != 4:
-                self.last[record[3:]] = (reply[1], held)
+                self.last[key] = (reply[1], held)
 
 
 def check_table(table, shadow):
@@ -201,7 +236,9 @@ def check_table(table, shadow):
     keys = {r[:13] for r in records}
     assert len(keys) == len(records), "a key is recorded twice"
     assert all(int.from_bytes(r[16:], "big") in shadow.working for r in records)
-    assert all(r[13:16] == b"\1\0\0" for r in records), "tag or filler"
+    half = shadow.half_closed()
+    assert all(r[13:16] == (b"\2\0\0" if r[:13] in half else b"\1\0\0") for r in records), \
+        "tag or filler"
     assert not any(table[20 * len(records):]), "bytes behind the used part"
     assert [(r[:13], int.from_bytes(r[16:], "big")) for r in records] == shadow.list
 
@@ -258,6 +295,12 @@ def check_along(history, records=3276, dirt=0):
             assert new[0] == old[0][:room] + line + old[0][room + 20:]
         if reply.mark == 4:
             assert used_before == records and new[0] == old[0]
+            seen["4 beside half-closed"] += bool(shadow.half_closed())
+        if reply.mark == 8:
+            tag = 20 * reply.reads - 7
+            assert old[0][tag] == 1 and new[0] == old[0][:tag] + b"\2" + old[0][tag + 1:]
+        if reply.mark in (1, 2, 6):
+            assert new[0] == old[0]
         if new[0] != old[0] or before != shadow.working:
             check_table(table, shadow)
         held = sorted(shadow.working | shadow.horizon)
@@ -270,7 +313,7 @@ def check_along(history, records=3276, dirt=0):
         seen["refusal", reply.refusal] += 1
         seen["mark", reply.mark] += 1
         seen["method", shadow.method] += 1
-    seen["pairs"] = pairs.asked
+    seen["pairs"], seen["ended"] = pairs.asked, pairs.over
     return seen
 
 

@@ -1,5 +1,7 @@
 """Buffers and rosters that someone else wrote: one case per sentence or reading, then
 pseudo-random ones. Refusals 8, 9 and 11 show only here."""
+from itertools import takewhile
+
 import check
 import model
 from model import Entry, Roster
@@ -99,6 +101,9 @@ def tables():
     done += ask(lend(stray, {1: 1}), PACKET_P, refused(8))
     done += ask(lend(stray, {4: 2}), PACKET_P, refused(7))
     lent = lend(stray, {4: 2})
+    done += ask(lent, END_P, (0, 0, 8, 1))
+    assert lent[0] == record(P, 4, 2)
+    done += ask(lent, PACKET_P, refused(7))
     done += ask(lent, END_P, (0, 0, 5, 1))
     assert lent[0] == bytes(20)
     # 10 by the used part alone.
@@ -107,6 +112,9 @@ def tables():
     twice = record(P, 1) + record(Q, 2) + record(P, 2) + record(R, 1)
     lent = lend(twice, {1: 1, 2: 1})
     done += ask(lent, PACKET_P, (0, 1, 1, 1), True)
+    done += ask(lent, END_P, (0, 0, 8, 1))
+    assert lent[0] == record(P, 1, 2) + twice[20:]
+    done += ask(lent, PACKET_P, (0, 1, 1, 1), True)
     done += ask(lent, END_P, (0, 0, 5, 1))
     assert lent[0] == record(Q, 2) + record(P, 2) + record(R, 1) + bytes(20)
     done += ask(lent, PACKET_P, (0, 2, 1, 2), True)
@@ -114,10 +122,14 @@ def tables():
     done += ask(lent, with_server(4, 1), refused(0))
     assert lent[0] == record(Q, 2) + record(P, 2) + bytes(40)
     # Reading 4: filler counts for nothing, all 20 bytes move; "later bytes stay".
-    odd, later = record(Q, 1, 1, b"\x07\x08"), record(R, 5, 2, b"\x09\x09") + record(P, 1)
+    odd, later = record(Q, 1, 1, b"\x07\x08"), record(R, 5, 3, b"\x09\x09") + record(P, 1)
     lent = lend(record(P, 1) + odd + later, {1: 1})
+    done += ask(lent, END_P, (0, 0, 8, 1))
+    done += ask(lent, b"\x02\0\0" + Q, (0, 0, 8, 2))
+    half = record(Q, 1, 2, b"\x07\x08")
+    assert lent[0] == record(P, 1, 2) + half + later
     done += ask(lent, END_P, (0, 0, 5, 1))
-    assert lent[0] == odd + bytes(20) + later
+    assert lent[0] == half + bytes(20) + later
     # Reading 6: an appended record joins the stray used tag behind it.
     pair = {1: 1, 1 + 2**31: 2}
     lent = lend(record(Q, 1) + b"\xff" * 20 + record(R, 1) + bytes(20), pair)
@@ -127,6 +139,58 @@ def tables():
     # Mark 4: every place used; then nothing is written.
     done += ask(lend(record(Q, 1) + record(R, 1), pair), PACKET_P, (0, 1, 4, 2), True)
     return done
+
+
+def tags():
+    """[1]: "The used part runs over tags 1 and 2.", whoever wrote them."""
+    done, pair = 0, {1: 1, 1 + 2**31: 2}
+    for tag in range(256):
+        used = tag in (1, 2)
+        one = record(P, 1, tag)
+        done += ask(lend(one, {1: 1}), PACKET_P, (0, 1, 1, 1) if used else (0, 1, 2, 0), True)
+        done += ask(lend(one), with_settings(1, 0), refused(10 if used else 0))
+        lent = lend(one)
+        done += ask(lent, END_P, (0, 0, {1: 8, 2: 5}.get(tag, 6), int(used)), not used)
+        assert lent[0] == {1: record(P, 1, 2), 2: bytes(20)}.get(tag, one)
+        # In front of the key's record, and in front of the end of the table.
+        two = record(Q, 1, tag, b"\x05\x06") + record(P, 1)
+        done += ask(lend(two, {1: 1}), PACKET_P, (0, 1, 1, 2) if used else (0, 1, 2, 0), True)
+        lent = lend(two, {1: 1})
+        done += ask(lent, b"\x01\0\0" + R, (0, 1, 2, 2 if used else 0), True)
+        lent = lend(two, pair)
+        done += ask(lent, b"\x01\0\0" + R, (0, 1, 4, 2) if used else (0, 1, 3, 0), used)
+        assert lent[0] == (two if used else record(R, 1) + record(P, 1))
+        lent = lend(two + record(R, 4, tag), {1: 1, 4: 1})
+        done += ask(lent, with_server(4, 1), refused(0))
+        assert lent[0] == (record(R, 4, tag) + bytes(40) if used else two + record(R, 4, tag))
+    return done
+
+
+def after(table, event, server):
+    """The marks that an accepted packet, end or remove working can get, its reads, and the table
+    afterwards, over a list of records. A packet's server is given: safety isn't asked here."""
+    places = [table[i:i + 20] for i in range(0, len(table), 20)]
+    used = len(list(takewhile(lambda r: r[13] == 1 or r[13] == 2, places)))
+    kind, key = event[0], event[3:]
+    if kind == 4:
+        kept = [r for r in places[:used] if r[16:] != event[3:7]]
+        return (0,), 0, b"".join(kept).ljust(20 * used, b"\0") + table[20 * used:]
+    place = next((n for n, r in enumerate(places[:used]) if r[:13] == key), None)
+    if place is None and kind == 2:
+        return (6,), used, table
+    if place is None and used == len(places):
+        return (2, 4), used, table
+    if place is None:
+        places[used] = record(key, server)
+        return (2, 3), used, b"".join(places)
+    if kind == 1:
+        return (1,), place + 1, table
+    found = places.pop(place)
+    if found[13] == 2:
+        places.insert(used - 1, bytes(20))
+        return (5,), place + 1, b"".join(places)
+    places.insert(place, found[:13] + b"\2" + found[14:])
+    return (8,), place + 1, b"".join(places)
 
 
 def rows_and_ring():
@@ -175,11 +239,12 @@ def rows_and_ring():
 
 def anything(count):
     """Pseudo-random buffers and rosters: a reply is always given, a refusal changes
-    nothing, an accepted roster change leaves rows and ring as the sets give."""
-    n, kinds = Numbers(99), set()
+    nothing, the table is what `after` says, an accepted roster change leaves rows and ring
+    as the sets give."""
+    n, kinds, marks = Numbers(99), set(), set()
     for _ in range(count):
         places = 1 + n.below(6)
-        table = b"".join(record(n.pick((P, Q, R)), n.below(6), n.pick((0, 1, 1, 1, 2)),
+        table = b"".join(record(n.pick((P, Q, R)), n.below(6), n.pick((0, 1, 1, 1, 2, 2, 2, 3, 255)),
                                 bytes([n.below(2), 0])) for _ in range(places))
         method = n.pick((1, 2, 3, 3, 2, 1, n.below(5)))
         lent = lend(table + bytes(n.pick((0, 0, 0, 0, 1))), {k + 1: n.pick((1, 1, 2, n.below(4)))
@@ -194,18 +259,25 @@ def anything(count):
         before = image(lent)
         reply = model.event(*lent, event)
         kinds.add(reply.refusal)
-        after = image(lent)
+        now = image(lent)
         if reply.refusal:
-            assert after == before and tuple(reply[1:]) == (0, 0, 0)
+            assert now == before and tuple(reply[1:]) == (0, 0, 0)
             continue
+        if event[0] in (1, 2, 4):
+            marks.add(reply.mark)
+            allowed, reads, written = after(before[0], event, reply.server)
+            assert reply.mark in allowed and reply.reads == reads
+            assert now[0] == (before[0] if reply.mark == 2 else written)
+        else:
+            assert now[0] == before[0]
         sets = check.Shadow(places)
         sets.working, sets.horizon = set(lent[4].working()), set(lent[4].horizon())
         sets.method, sets.row_count = lent[4].method, lent[4].row_count
-        assert not model.unsound(lent[4]) and len(after[0]) == len(before[0])
+        assert not model.unsound(lent[4])
         rows, flags, ring = before[1:4]
         if event[0] in (3, 4, 5, 6) and sets.method == 3:
-            now = sets.rows_now()
-            rows, flags = tuple(now[0]) + rows[len(now[0]):], bytes(now[1]) + flags[len(now[1]):]
+            chosen, flagged = sets.rows_now()
+            rows, flags = tuple(chosen) + rows[len(chosen):], bytes(flagged) + flags[len(flagged):]
         elif event[0] in (3, 4, 5, 6) and sets.method == 2:
             ring = tuple(sets.ring_now()) + ring[lent[4].count:]
         elif event[0] == 7:
@@ -213,13 +285,14 @@ def anything(count):
             flags = bytes(sets.row_count) + flags[sets.row_count:]
         elif event[0] == 1:
             assert reply.server in sets.working
-        assert after[1:4] == (rows, flags, ring)
+        assert now[1:4] == (rows, flags, ring)
     assert kinds >= {0, 1, 2, 3, 4, 5, 7, 8, 9, 10, 11}, kinds
+    assert marks == {0, 1, 2, 3, 4, 5, 6, 8}, marks
     return count
 
 
 def run():
-    return lengths() + rosters() + tables() + rows_and_ring() + anything(4000)
+    return lengths() + rosters() + tables() + tags() + rows_and_ring() + anything(4000)
 
 
 if __name__ == "__main__":

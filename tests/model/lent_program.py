@@ -12,6 +12,7 @@ from model import Entry
 from streams import HALF, with_server, with_settings
 
 P, Q, R = (bytes([n]) * 13 for n in (1, 2, 3))
+END = b"\x02\0\0" + P
 POINT, ROW = model.fnv(P), model.fnv(P) % 11
 ONE = {1: 1}
 
@@ -159,8 +160,15 @@ def not_working():
     yield one_entry("the entry names a horizon server", pair, 4, 1)
     nobody = {2: 2, 4: 2}
     yield line("nobody works and the record names a horizon server", Case(records=stray, states=nobody))
-    yield line("an end of that record", Case(event=b"\x02\0\0" + P, records=stray, states=nobody))
+    yield line("an end of that record", Case(event=END, records=stray, states=nobody))
+    half = (record(P, 4, 2),)
+    yield line("the half-closed record names an unknown server", Case(records=half))
+    yield line("the half-closed record names a horizon server", Case(records=half, states=pair))
+    yield line("nobody works and the half-closed record names a horizon server", Case(records=half, states=nobody))
+    yield line("an end of that half-closed record", Case(event=END, records=half, states=nobody))
     yield line("configure with a record", Case(event=with_settings(1, 0), records=stray, states={}))
+    yield line("configure with a half-closed record", Case(event=with_settings(1, 0), records=half, states={}))
+    yield line("configure with a record of tag 3", Case(event=with_settings(1, 0), records=(record(P, 4, 3),), states={}))
     yield one_row("the record is working, the row is not", {1: 1, 3: 2}, 3, 0, records=(record(P, 1),))
 
 
@@ -185,14 +193,44 @@ def tables():
     yield line("unsafe and no room", Case(records=(record(Q, 1), record(R, 1)), states=pair, table=40))
     twice = (record(P, 1), record(Q, 2), record(P, 2), record(R, 1))
     yield line("packet of a key twice", Case(records=twice, states=both))
-    yield line("end of a key twice", Case(event=b"\x02\0\0" + P, records=twice, states=both))
+    yield line("end of a key twice", Case(event=END, records=twice, states=both))
+    yield line("end of a key twice, the first half-closed", Case(event=END, records=(record(P, 1, 2), *twice[1:]), states=both))
     yield line("remove working of a key twice", Case(event=with_server(4, 1), records=twice, states=both))
     odd = record(Q, 1, 1, b"\x07\x07")
-    yield line("an end moves filler", Case(event=b"\x02\0\0" + P, records=(
-        record(P, 1), odd, record(R, 5, 2, b"\x09\x09"), record(P, 1))))
+    yield line("an end moves filler", Case(event=END, records=(
+        record(P, 1, 2), odd, record(R, 5, 3, b"\x09\x09"), record(P, 1))))
     yield line("remove working moves filler", Case(event=with_server(4, 4), states={1: 1, 4: 1}, records=(
         record(P, 4, 1, b"\x05\x05"), odd, record(R, 4, 1, b"\x09\x09"),
         record(b"\x05" * 13, 4, 0, b"\x06\x06"))))
+
+
+def tags():
+    """Request [1], "The used part runs over tags 1 and 2.", and other tags in every place."""
+    pair, odd = {1: 1, 1 + HALF: 2}, b"\x07\x08"
+    for tag in (0, 1, 2, 3, 255):
+        one = (record(P, 1, tag, odd), record(Q, 1), record(R, 1, 2))
+        yield line("packet on tag %d" % tag, Case(records=one, states=pair))
+        yield line("end on tag %d" % tag, Case(event=END, records=one))
+        middle = (record(Q, 1, 2, odd), record(R, 1, tag, odd), record(P, 1))
+        yield line("packet behind tag %d" % tag, Case(records=middle, states=pair))
+        yield line("end behind tag %d" % tag, Case(event=END, records=middle))
+        first = (record(Q, 1, tag, odd), record(P, 1, 2, odd), record(R, 1))
+        yield line("second end behind tag %d" % tag, Case(event=END, records=first))
+        last = (record(P, 1, 2, odd), record(Q, 1), record(R, 1, tag, odd))
+        yield line("second end in front of tag %d" % tag, Case(event=END, records=last))
+        yield line("remove working in front of tag %d" % tag, Case(
+            event=with_server(4, 4), states={1: 1, 4: 1}, records=(record(P, 4, 2), record(Q, 1, 2, odd), record(R, 4, tag))))
+        yield line("unsafe, tag %d in the last place" % tag, Case(
+            records=(record(Q, 1, 2), record(R, 1, tag, odd)), states=pair, table=40))
+        yield line("an append joins tag %d" % tag, Case(
+            records=(record(Q, 1, 2), record(R, 1, 3), record(R, 1, tag, odd)), states=pair))
+    every = (record(Q, 1, 2), record(R, 1, 2), record(b"\x04" * 13, 1, 2), record(P, 1))
+    yield line("first end in the last place", Case(event=END, records=every))
+    yield line("second end in the last place", Case(event=END, records=(*every[:3], record(P, 1, 2, odd))))
+    yield line("first end in the only place", Case(event=END, records=(record(P, 1, 1, odd),), table=20))
+    yield line("second end in the only place", Case(event=END, records=(record(P, 1, 2, odd),), table=20))
+    yield line("an end with no record and all half-closed", Case(event=b"\x02\0\0" + b"\x05" * 13, records=every))
+    yield line("a malformed end of a record", Case(event=b"\x02\0\1" + P, records=every))
 
 
 def changes():
@@ -205,5 +243,5 @@ def changes():
 
 
 def lines():
-    for group in (lengths, starts, rosters, not_working, rows_and_rings, tables, changes):
+    for group in (lengths, starts, rosters, not_working, rows_and_rings, tables, tags, changes):
         yield from group()

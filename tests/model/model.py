@@ -1,7 +1,8 @@
-"""Reference model of the balancer of document 01, written from its documents.
+"""Reference model of the balancer of documents 01 and 02, written from them.
 
-Sentences in quotation marks beside a function are document 01's; "reading N"
-is a point of READINGS.md. Every function is total: see `event` and `start`.
+Sentences in quotation marks beside a function are document 01's, or document 02's
+where "[1]", its request, stands before them; "reading N" is a point of READINGS.md.
+Every function is total: see `event` and `start`.
 """
 from collections import namedtuple
 from functools import lru_cache
@@ -13,6 +14,9 @@ ROWS_LENGTH, RING_LENGTH, ROSTER_LENGTH = 4096, 64, 64
 
 # "three methods: 1 HRW, 2 ring, 3 row table"
 HRW, RING, ROW_TABLE = 1, 2, 3
+
+# The tags of a used record. [1]: "The used part runs over tags 1 and 2."
+OPEN, HALF_CLOSED = 1, 2
 
 # The states of a roster place.
 UNUSED, WORKING, HORIZON = 0, 1, 2
@@ -121,9 +125,11 @@ def unsafe(method, chosen, horizon, at):
 
 
 def used_records(table):
-    """"The used part of a table is all records before the first whose tag is not 1." """
+    """"The used part of a table is all records before the first whose tag is not 1."
+    [1]: "The used part runs over tags 1 and 2." """
     count = 0
-    while count * RECORD_SIZE < len(table) and table[count * RECORD_SIZE + KEY_SIZE] == 1:
+    while (count * RECORD_SIZE < len(table)
+           and table[count * RECORD_SIZE + KEY_SIZE] in (OPEN, HALF_CLOSED)):
         count += 1
     return count
 
@@ -137,6 +143,10 @@ def record_server(record):
     return int.from_bytes(record[16:20], "big")
 
 
+def record_tag(record):
+    return record[KEY_SIZE]
+
+
 def find(table, key):
     """"A key's record is the first used one with that key." The place counted
     from 1, or 0."""
@@ -148,9 +158,15 @@ def find(table, key):
 
 
 def append(table, key, server):
-    """"A new record goes into the first unused place." """
+    """"A new record goes into the first unused place.", with tag 1"""
     first = used_records(table) * RECORD_SIZE
-    table[first:first + RECORD_SIZE] = key + b"\x01\x00\x00" + server.to_bytes(4, "big")
+    table[first:first + RECORD_SIZE] = (key + bytes([OPEN, 0, 0])
+                                        + server.to_bytes(4, "big"))
+
+
+def half_close(table, index):
+    """[1]: "The first end on a record now sets its tag to 2" """
+    table[index * RECORD_SIZE + KEY_SIZE] = HALF_CLOSED
 
 
 def remove_record(table, index):
@@ -324,7 +340,8 @@ def refusal(table, rows, flags, ring, roster, record):
 
 def packet(table, rows, flags, ring, roster, key):
     """"if the key has a record, its server. Otherwise the choice ... If ... unsafe ...
-    is recorded where there is room." Marks: "1 from the record, 2 chosen and safe, 3
+    is recorded where there is room." Reading 15: a half-closed record is a record, and
+    stays half-closed. Marks: "1 from the record, 2 chosen and safe, 3
     chosen and recorded, 4 chosen, unsafe and no room". Reads: "the place of the record
     counted from 1, or all records used before the event when the key has none." """
     place = find(table, key)
@@ -341,10 +358,14 @@ def packet(table, rows, flags, ring, roster, key):
 
 
 def end(table, key):
-    """"An end takes the key's record away." "5 record removed, 6 nothing to remove" """
+    """"5 record removed, 6 nothing to remove". [1]: "The first end on a record now sets
+    its tag to 2 and gives mark 8; the next end removes it with mark 5." """
     place = find(table, key)
     if not place:
         return Reply(0, 0, 6, used_records(table))
+    if record_tag(record_at(table, place - 1)) == OPEN:
+        half_close(table, place - 1)
+        return Reply(0, 0, 8, place)
     remove_record(table, place - 1)
     return Reply(0, 0, 5, place)
 

@@ -8,7 +8,7 @@ A stream's text: "start=", which starts on a table of 3,276 records where all is
 and its byte 0, an equals sign, and its bytes. What has to be printed: the session's lines, each with the digests of
 `session.py --dump`. The stream has all three methods, every kind, every refusal
 that a session can show, ties of weight and of position, the last working server removed and another
-added, a server removed and returned, 64 servers, and a short last record.
+added, a server removed and returned, half-closed records, 64 servers, and a short last record.
 """
 import io
 import sys
@@ -36,7 +36,8 @@ def refused(s):
 
 def roster_changes(s, method, row_count):
     """Refusals 10, 3, 4, 5 and 7; safe and unsafe packets; records purged when their server goes, and not
-    revived when it returns; the last working server gone and another added."""
+    revived when it returns; the last working server gone and another added; records closed
+    on one side and on both, and taken away between the two."""
     s.configure(method, row_count)
     s.configure(method, row_count)
     s.add_working(2)                            # 4, 5, 4
@@ -55,9 +56,14 @@ def roster_changes(s, method, row_count):
     s.packets(*KEYS)
     s.packets(*KEYS[:3])
     s.ends(KEYS[1], KEYS[1])
+    s.ends(*KEYS[2:], KEYS[1])
+    s.packets(*KEYS[2:])
+    s.ends(*KEYS[3:5])
     s.add_working(1)
     s.packets(*KEYS)
-    s.remove_working(2)                         # its records go
+    s.ends(KEYS[0])
+    s.remove_working(2)                         # its records go, half-closed ones too
+    s.ends(KEYS[0])
     s.packets(*KEYS)
     s.add_working(2)                            # it returns
     s.packets(*KEYS[:4])

@@ -20,17 +20,17 @@ HERE = os.path.dirname(os.path.abspath(__file__))
 
 def row(name, seen):
     refusals = " ".join(str(r) for r in (1, 2, 10, 3, 6, 4, 5, 7) if seen["refusal", r])
-    marks = " ".join(str(m) for m in range(1, 7) if seen["mark", m])
+    marks = " ".join(str(m) for m in (1, 2, 3, 4, 5, 6, 8) if seen["mark", m])
     methods = " ".join(str(m) for m in (1, 2, 3) if seen["method", m])
-    return "| %s | %d | %s | %s | %s | %d |" % (
-        name, seen["events"], methods, refusals or "-", marks or "-", seen["pairs"])
+    return "| %s | %d | %s | %s | %s | %d | %d |" % (
+        name, seen["events"], methods, refusals or "-", marks or "-", seen["pairs"], seen["ended"])
 
 
 def main(write):
     check.figures()
     print("figures P1 to P13 and FNV vectors: ok")
-    print("| stream | events | methods | refusals | marks | pairs of demand 3 |")
-    print("|---|---|---|---|---|---|")
+    print("| stream | events | methods | refusals | marks | pairs of demand 3 | with an end between |")
+    print("|---|---|---|---|---|---|---|")
     total, began = Counter(), time.time()
     for name in streams.names():
         data = streams.stream(name)
@@ -50,6 +50,7 @@ def main(write):
         total.update(seen)
         print(row("history %d (%d records)" % (seed, records), seen), flush=True)
     print(row("all", total))
+    print("mark 4 beside half-closed records: %d" % total["4 beside half-closed"])
     print("lent buffers: %d cases ok" % lent.run())
     print("%.0f seconds" % (time.time() - began))
 

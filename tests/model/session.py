@@ -1,4 +1,4 @@
-"""The session program of document 01 on the model.
+"""The session program of documents 01 and 02 on the model.
 
     python3 session.py [--dump FILE] < events > lines
 

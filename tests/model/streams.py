@@ -1,4 +1,4 @@
-"""Named event streams for the session program of document 01.
+"""Named event streams for the session program of documents 01 and 02.
 
     python3 streams.py NAME > events        python3 streams.py --list
 
@@ -269,9 +269,10 @@ def full(method=1, row_count=0):
     s.packets(*unsafe[:3276])                   # every place used
     s.packets(unsafe[3276], unsafe[3276], safe[0], unsafe[0], unsafe[3275])     # 4 4 2 1 1
     s.ends(safe[0], unsafe[3276])               # 6 6
-    s.ends(unsafe[1000])                        # 5
+    s.ends(unsafe[1000], unsafe[1000])          # 8 5
     s.packets(unsafe[3276], unsafe[1000], unsafe[999], unsafe[1001])            # 3 4 1 1
-    s.ends(unsafe[0], unsafe[3276], unsafe[3275])
+    s.ends(unsafe[0], unsafe[3276], unsafe[3275])                               # 8 8 8
+    s.ends(unsafe[0], unsafe[3276], unsafe[3275])                               # 5 5 5
     s.packets(unsafe[0], unsafe[3277], unsafe[3278], unsafe[3279], safe[1])     # 3 3 3 4 2
     s.configure(method, row_count)              # 10
     s.add_working(2)                            # now working: the records stay
@@ -291,16 +292,20 @@ STREAMS.update(("short%d" % length, lambda length=length: short(length))
                for length in range(1, 16))
 
 
+def made():
+    """Every stream by its name."""
+    import streams_closing
+    import streams_methods
+    return {**STREAMS, **streams_methods.STREAMS, **streams_closing.STREAMS}
+
+
 def stream(name):
     """The bytes of a named stream."""
-    import streams_methods
-    made = {**STREAMS, **streams_methods.STREAMS}
-    return b"".join(made[name]().events)
+    return b"".join(made()[name]().events)
 
 
 def names():
-    import streams_methods
-    return list(STREAMS) + list(streams_methods.STREAMS)
+    return list(made())
 
 
 if __name__ == "__main__":

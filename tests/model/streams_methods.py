@@ -19,7 +19,7 @@ def all_states(s, servers, keys):
                 s.add_working(server)
         s.packets(*keys)
         s.packets(*keys[:2])
-        s.ends(*keys[:3])
+        s.ends(*keys[:3], *keys[:2])
         s.clear()
 
 
@@ -113,7 +113,7 @@ def returns():
             s.packets(*keys[:12])
             s.add_working(server)               # back: its old records are gone
             s.packets(*keys)
-        s.ends(*keys[::3])
+        s.ends(*keys[::3], *keys[::6])          # half of them a second time
         s.packets(*keys)
         s.remove_working(1)
         s.remove_horizon(1)                     # gone from the roster, then back to work
@@ -144,13 +144,13 @@ def opposite():
         s.packets(*back)
         s.packets(*there)
         s.packets(*back)
-        s.ends(*there[:6])
+        s.ends(*there[:6], *there[:4])
         s.packets(*back)
-        s.ends(*back[3:9])
+        s.ends(*back[3:9], *back[5:9])
         s.packets(*there)
         s.packets(*near)                        # one bit off is another key too
         s.packets(*near)
-        s.ends(*near)
+        s.ends(*near, *near[::2])
         s.clear()
     return s
 
