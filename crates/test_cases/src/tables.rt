@@ -38,12 +38,13 @@ fn poke(t: &mut [u8], i: usize, value: u8) {
     }
 }
 
-// What a step does to the table: start, fill, append, remove, leave or poke.
+// What a step does to the table: start, fill, append, half-close, remove, leave or poke.
 fn change(t: &mut [u8], op: u8, a: u32, b: u32) {
     match op {
         b's' => table::start(t),
         b'f' => fill(t, b),
         b'a' => append(t, b),
+        b'c' => table::half_close(t, b as usize),
         b'r' => table::remove(t, b as usize),
         b'l' => table::remove_server(t, b),
         b'p' => poke(t, a as usize, (b % 256) as u8),
@@ -60,10 +61,11 @@ fn seek(t: &[u8], n: u32) {
     }
 }
 
-// What a step shows: a key's record, what the bytes ask as an event record, a hash or dump of the bytes, how many bytes there are, or records used.
+// What a step shows: a key's record, a place's tag, what the bytes ask as an event record, a hash or dump of the bytes, how many bytes there are, or records used.
 fn show(t: &[u8], op: u8, b: u32) {
     match op {
         b'k' => seek(t, b),
+        b'w' => say::number(table::tag_at(t, b as usize) as u64),
         b'e' => events::asked(t),
         b'h' => say::number(hash::fnv(t) as u64),
         b'd' => say::bytes(t),
