@@ -1,30 +1,19 @@
 -- A half-closed record: its tag is 2 and all else of it, and of the table, is as it was. For callers: what becomes of the used part and of the
 -- table's length; of any table.
 use Prim.Native.Nat.{ℕ, zero, suc, _+_, _*_, _-_, _<_, _≤_}
-use mathlib.Core.Bool.{true, false, _||_}
 use mathlib.Core.List.{List, [], _∷_, _++_, append-assoc}
-use mathlib.Core.Logic.{_≢_, _⊎_, inl, inr, ⊎-elim}
+use mathlib.Core.Logic.{_≢_}
 use mathlib.Core.Path.{_≡_, refl, sym, ap, _∙_}
 use native.Mathlib.Nat.{not-suc-le-zero, le-of-suc-le-suc}
 use native.Mathlib.Omega.{arith}
-use lib.Dec.{eqb, ltb}
-use lib.ListN.{length, getD, set, take, drop, length-set, List·getD-append}
-use lib.Seq.{set-append-left, getD-set-same, getD-set-other, getD-append-add}
-use borrow.Author.Tests.{eqb-true, ltb-true, ltb-false, lt-ltb, le-ltb}
-use Rattle.sets.proofs.Cases.{both, clash}
-use Rattle.bigendian.specs.BigEndian.{number4At}
-use Rattle.table.specs.Table.{keyOf, tagOf, serverOf, usedTag, halfClosedTag, tagOffset, recordsOf, usedPart, used, bytesOf, tagAt, packed, halfClosed, noStray}
-use Rattle.table.proofs.Parts.{Each, Sized, Tagged, each-at, used-sized, used-tagged, used-whole, records-whole}
-use Rattle.table.proofs.Packing.{packed-length, packed-used, packed-stray}
-
--- a used tag is 1 or 2
-pub used-tags : (n : ℕ) → usedTag n ≡ true → (n ≡ 1) ⊎ (n ≡ 2)
-unfolding usedTag
-used-tags n = both (eqb n 1) (λ a. rw a (λ e. inl (eqb-true n 1 a))) (λ a. rw a (λ e. inr (eqb-true n 2 e)))
-
-pub tags-are : (n : ℕ) → (n ≡ 1) ⊎ (n ≡ 2) → usedTag n ≡ true
-unfolding usedTag
-tags-are n = ⊎-elim (λ e. rw e) (λ e. rw e)
+use lib.Dec.{ltb}
+use lib.ListN.{length, getD, set, take, drop, length-set}
+use lib.Seq.{set-append-left, getD-set-same, getD-set-other}
+use borrow.Author.Tests.{ltb-true, ltb-false, lt-ltb, le-ltb}
+use Rattle.sets.proofs.Cases.{both}
+use Rattle.table.specs.Table.{keyOf, tagOf, serverOf, usedTag, halfClosedTag, tagOffset, usedPart, used, bytesOf, packed, halfClosed, noStray}
+use Rattle.table.proofs.Parts.{Each, Sized, Tagged, each-at, used-sized, used-tagged, used-whole}
+use Rattle.table.proofs.Packing.{packed-used, packed-stray}
 
 -- ---- one record
 
@@ -139,13 +128,3 @@ clean-half t (suc i) =
     both (ltb i (used t)) (λ e. clean-in t i (ltb-true i (used t) e)) (λ e.
     let out : used t < suc i = omega (arith, ltb-false i (used t) e) in
     rw (← (half-out t (suc i) out)))
-
--- the tag at a used place is its record's
-pub tag-used : (t : List ℕ) (place : ℕ) → 1 ≤ place → place ≤ used t → tagAt place t ≡ tagOf (getD (usedPart t) (place - 1) [])
-unfolding tagAt
-tag-used t zero l h = absurd (omega arith)
-tag-used t (suc i) l h =
-    let e : suc i - 1 ≡ i = omega arith in
-    let r : getD (recordsOf t) i [] ≡ getD (usedPart t) i [] =
-    ap (λ (q : List (List ℕ)). getD q i []) (records-whole t) ∙ List·getD-append (usedPart t) (recordsOf (drop (used t * 20) t)) [] i h in
-    rw (e, r)

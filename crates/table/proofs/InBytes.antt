@@ -2,23 +2,23 @@
 use Prim.Native.Nat.{ℕ, suc, _+_, _*_, _-_, _<_, _≤_}
 use mathlib.Core.Bool.{true, cond}
 use mathlib.Core.List.{List, [], _∷_, _++_, append-assoc}
-use mathlib.Core.Logic.{_⊎_}
+use mathlib.Core.Logic.{_⊎_, ⊎-elim}
 use mathlib.Core.Path.{_≡_, refl, sym, ap, subst, _∙_}
 use native.Mathlib.Omega.{arith}
 use lib.Dec.{eqb}
 use lib.ListN.{length, getD, take, drop, replicate, length-append, length-drop, length-replicate}
-use lib.Seq.{take-at, drop-at, length-take-le, getD-take, getD-drop}
-use borrow.Author.Tests.{eqb-true, eqb-false, eq-eqb, ne-eqb, lt-ltb}
+use lib.Seq.{take-at, drop-at, length-take-le, getD-take, getD-drop, getD-set-same, getD-set-other}
+use borrow.Author.Tests.{eqb-true, eqb-false, ne-eqb, lt-ltb}
 use Rattle.bigendian.specs.BigEndian.{bytes4}
 use Rattle.sets.proofs.Cases.{both}
 use Rattle.spans.specs.Spans.{allZero}
 use Rattle.spans.proofs.Scans.{zeros-allZero}
-use Rattle.table.specs.Table.{serverOf, tagOf, usedTag, recordsOf, usedAmong, usedPart, used, room, bytesOf, newRecord, writtenAfter, packed, without, removed, notNaming, removedServer, started}
+use Rattle.table.specs.Table.{serverOf, tagOf, usedTag, recordsOf, usedAmong, usedPart, used, room, bytesOf, newRecord, writtenAfter, packed, without, removed, notNaming, removedServer, halfClosed, started}
 use Rattle.table.proofs.Places.{used-more}
-use Rattle.table.proofs.Parts.{Each, Sized, Tagged, each-at, bytes-length, used-at, used-sized, used-tagged, records-behind, behind-unused}
+use Rattle.table.proofs.Parts.{Each, Sized, Tagged, used-tags, tags-are, each-at, bytes-length, used-fits, used-at, used-sized, used-tagged, records-behind, behind-unused}
 use Rattle.table.proofs.Packing.{without-in, without-each, without-length, notNaming-each, notNaming-length}
 use Rattle.table.proofs.Records.{used-removedServer, new-length}
-use Rattle.table.proofs.HalfClosed.{used-tags, tags-are}
+use Rattle.table.proofs.HalfClosed.{half-none, half-out, half-in}
 
 -- "The used part of a table is all records before the first whose tag is not" 1 or 2: request [1], "The used part runs over tags 1 and 2."
 module _ (t : List ℕ) where
@@ -103,6 +103,20 @@ removed-zero i t h =
     subst (λ (k : ℕ). take k (drop ((used t - 1) * 20) (packed rs t)) ≡ replicate k 0) m
     (subst (λ (k : ℕ). take ((used t - length rs) * 20) (drop (k * 20) (packed rs t)) ≡ replicate ((used t - length rs) * 20) 0) n
     (packed-zero rs t (without-each Sized (suc i) (usedPart t) (used-sized t)) (without-length (suc i) (usedPart t))))
+
+-- request [1], "sets its tag to 2": at a place of the used part that byte is 2 and every other byte stays; at any other place nothing changes
+module _ (t : List ℕ) (place : ℕ) where
+  pub half-here : (place ≡ 0 → ⊥) → place ≤ used t → getD (halfClosed place t) ((place - 1) * 20 + 13) 0 ≡ 2
+  half-here n h =
+      rw (← (half-in t place ((place - 1) * 20 + 13) n h refl))
+      (getD-set-same t ((place - 1) * 20 + 13) 2 0 (omega (arith, used-fits t)))
+
+  pub half-others : (place ≡ 0 → ⊥) → place ≤ used t → (j : ℕ) → (j ≡ (place - 1) * 20 + 13 → ⊥) → getD (halfClosed place t) j 0 ≡ getD t j 0
+  half-others n h j o =
+      rw (← (half-in t place ((place - 1) * 20 + 13) n h refl)) (getD-set-other t ((place - 1) * 20 + 13) j 2 0 o)
+
+  pub half-outside : (place ≡ 0) ⊎ (used t < place) → halfClosed place t ≡ t
+  half-outside = ⊎-elim (λ z. rw z (sym (half-none t))) (λ h. sym (half-out t place h))
 
 -- "Remove working takes away every record naming that server.": none is left, those of any other server stay in their order, and what they leave is zeroed
 gone : (s : ℕ) (rs : List (List ℕ)) → Each (λ r. serverOf r ≡ s → ⊥) (notNaming s rs)

@@ -2,11 +2,14 @@
 use Prim.Native.Nat.{ℕ, zero, suc, _+_, _*_, _-_, _/_, _<_, _≤_}
 use mathlib.Core.Bool.{true}
 use mathlib.Core.List.{List, [], _∷_, _++_, append-assoc, append-nil}
+use mathlib.Core.Logic.{_⊎_, inl, inr, ⊎-elim}
 use mathlib.Core.Path.{_≡_, refl, sym, ap, _∙_}
 use native.Mathlib.Nat.{not-suc-le-zero, le-of-suc-le-suc, suc-add}
 use native.Mathlib.Omega.{arith}
+use lib.Dec.{eqb}
 use lib.ListN.{length, getD, take, drop, length-append, length-drop, take-append-drop}
 use lib.Seq.{take-at, drop-at, take-add, drop-drop, length-take-le}
+use borrow.Author.Tests.{eqb-true}
 use Rattle.sets.proofs.Cases.{both}
 use Rattle.table.specs.Table.{tagOf, usedTag, firstRecords, recordsOf, usedAmong, usedPart, used, room, bytesOf}
 use Rattle.table.proofs.Places.{length-records, first-at}
@@ -36,6 +39,15 @@ Sized r = length r ≡ 20
 
 abbrev pub Tagged : List ℕ → Type 0
 Tagged r = usedTag (tagOf r) ≡ true
+
+-- a used tag is 1 or 2
+pub used-tags : (n : ℕ) → usedTag n ≡ true → (n ≡ 1) ⊎ (n ≡ 2)
+unfolding usedTag
+used-tags n = both (eqb n 1) (λ a. rw a (λ e. inl (eqb-true n 1 a))) (λ a. rw a (λ e. inr (eqb-true n 2 e)))
+
+pub tags-are : (n : ℕ) → (n ≡ 1) ⊎ (n ≡ 2) → usedTag n ≡ true
+unfolding usedTag
+tags-are n = ⊎-elim (λ e. rw e) (λ e. rw e)
 
 -- records and their bytes
 pub bytes-append : (rs qs : List (List ℕ)) → bytesOf (rs ++ qs) ≡ bytesOf rs ++ bytesOf qs

@@ -83,6 +83,10 @@ pub count-end : (t : List ℕ) (i : ℕ) → room t ≤ i → usedAmong (drop i 
 unfolding usedAmong
 count-end t i h = rw (records-end t i h)
 
+-- a place behind the last has no record
+none-at : (t : List ℕ) (i : ℕ) → room t < suc i → getD (recordsOf t) i [] ≡ []
+none-at t i h = List·getD-eq-default (recordsOf t) [] {n = i} (omega (arith, length-records t))
+
 -- the server at a place: at place 0, behind the last place, and in between
 pub server-none : (t : List ℕ) → 0 ≡ serverAt 0 t
 unfolding serverAt
@@ -91,7 +95,7 @@ server-none t = refl
 pub server-out : (t : List ℕ) (place : ℕ) → room t < place → 0 ≡ serverAt place t
 unfolding serverAt
 server-out t zero h = refl
-server-out t (suc i) h = rw (List·getD-eq-default (recordsOf t) [] {n = i} (omega (arith, length-records t)))
+server-out t (suc i) h = rw (none-at t i h)
 
 pub server-in : (t : List ℕ) (place a : ℕ) → (place ≡ 0 → ⊥) → place ≤ room t → a ≡ (place - 1) * 20 + 16 → number4At t a ≡ serverAt place t
 unfolding serverAt
@@ -110,7 +114,7 @@ tag-none t = refl
 pub tag-out : (t : List ℕ) (place : ℕ) → room t < place → 0 ≡ tagAt place t
 unfolding tagAt
 tag-out t zero h = refl
-tag-out t (suc i) h = rw (List·getD-eq-default (recordsOf t) [] {n = i} (omega (arith, length-records t)))
+tag-out t (suc i) h = rw (none-at t i h)
 
 pub tag-in : (t : List ℕ) (place a : ℕ) → (place ≡ 0 → ⊥) → place ≤ room t → a ≡ (place - 1) * 20 + 13 → getD t a 0 ≡ tagAt place t
 unfolding tagAt

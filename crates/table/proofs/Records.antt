@@ -11,7 +11,7 @@ use borrow.Author.Tests.{ltb-true}
 use Rattle.bigendian.specs.BigEndian.{bytes4}
 use Rattle.bigendian.proofs.RoundTrip.{number4-bytes4}
 use Rattle.sets.proofs.Cases.{both}
-use Rattle.table.specs.Table.{keyOf, tagOf, serverOf, usedTag, recordsOf, usedPart, used, room, serverAt, newRecord, writtenAfter, without, removed, notNaming, removedServer, started, recOf, entries}
+use Rattle.table.specs.Table.{keyOf, tagOf, serverOf, usedTag, recordsOf, usedPart, used, room, serverAt, tagAt, newRecord, writtenAfter, without, removed, notNaming, removedServer, started, recOf, entries}
 use Rattle.table.proofs.Parts.{each-at, Sized, Tagged, used-sized, used-tagged, records-whole}
 use Rattle.table.proofs.Packing.{packed-length, packed-used, without-length, without-each, notNaming-length, notNaming-each, started-used}
 pub use Rattle.table.proofs.Parts.{used-within, used-bytes}
@@ -21,15 +21,20 @@ module _ (t : List ℕ) where
   pub used-record : (i : ℕ) → i < used t → (length (getD (usedPart t) i []) ≡ 20) × (usedTag (tagOf (getD (usedPart t) i [])) ≡ true)
   used-record i h = (each-at Sized (usedPart t) (used-sized t) i h, each-at Tagged (usedPart t) (used-tagged t) i h)
 
-  -- the server at a used place is the one that its record names
+  -- the record at a used place, with its server and its tag
+  record-used : (i : ℕ) → i < used t → getD (recordsOf t) i [] ≡ getD (usedPart t) i []
+  record-used i h =
+      ap (λ (q : List (List ℕ)). getD q i []) (records-whole t) ∙ List·getD-append (usedPart t) (recordsOf (drop (used t * 20) t)) [] i h
+
   pub server-used : (place : ℕ) → 1 ≤ place → place ≤ used t → serverAt place t ≡ serverOf (getD (usedPart t) (place - 1) [])
   unfolding serverAt
   server-used zero l h = absurd (omega arith)
-  server-used (suc i) l h =
-      let e : suc i - 1 ≡ i = omega arith in
-      let r : getD (recordsOf t) i [] ≡ getD (usedPart t) i [] =
-      ap (λ (q : List (List ℕ)). getD q i []) (records-whole t) ∙ List·getD-append (usedPart t) (recordsOf (drop (used t * 20) t)) [] i h in
-      rw (e, r)
+  server-used (suc i) l h = let e : suc i - 1 ≡ i = omega arith in rw (e, record-used i h)
+
+  pub tag-used : (place : ℕ) → 1 ≤ place → place ≤ used t → tagAt place t ≡ tagOf (getD (usedPart t) (place - 1) [])
+  unfolding tagAt
+  tag-used zero l h = absurd (omega arith)
+  tag-used (suc i) l h = let e : suc i - 1 ≡ i = omega arith in rw (e, record-used i h)
 
   -- the used part after a removal and after a start
   pub used-removed : (place : ℕ) → usedPart (removed place t) ≡ without place (usedPart t)

@@ -5,7 +5,7 @@ use mathlib.Core.List.{List}
 use mathlib.Core.Path.{_≡_, refl, _∙_}
 use native.Mathlib.Omega.{arith}
 use lib.Dec.{eqb}
-use lib.ListN.{length, getD, take, drop}
+use lib.ListN.{getD, take, drop}
 use Rattle.words.specs.Words.{wordAt, BytesAt}
 use Rattle.spans.specs.Spans.{same}
 use Rattle.table.specs.Table.{usedTag, recordsOf, usedAmong, usedPart, room, Finding, findAmong, find}

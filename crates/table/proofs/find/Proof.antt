@@ -1,3 +1,4 @@
+-- `table::find` meets its contract. In the loop the search from the front has come to the present byte; `find_from` goes on from there.
 use Prim.Native.Nat.{_≤_, _-_, _+_}
 use mathlib.Core.Logic.{inl}
 use mathlib.Core.Path.{_∙_}
@@ -5,15 +6,10 @@ use native.Mathlib.Omega.{arith}
 use lib.ListN.{getD}
 use Rattle.table.proofs.Keys.{Spelt}
 use Rattle.table.proofs.Search.{Come, from-first, come-first, come-end, come-here, come-on}
-use Rattle.table.proofs.HalfClosed.{tags-are}
+use Rattle.table.proofs.Parts.{tags-are}
 use borrow.Author.Needs.{needs}
 use Rattle.table.proofs.find.Statement.{statement}
 use Rattle.table.proofs.find.Tie as tie
-use Rattle.table.proofs.find.Reads as reads
-use Rattle.table.proofs.find.Lts as lts
-use Rattle.table.proofs.find_from.Reads as find-from-reads
-use Rattle.table.proofs.has_words.Reads as has-words-reads
-use Rattle.table.proofs.word_at.Reads as word-at-reads
 
 abbrev Inv-loop : tie.InvT-loop
 Inv-loop table key front back end at₀ at = (at ≤ end) × Come table 0 front back at
@@ -33,45 +29,35 @@ spelt w =
       back-bytes = w .word-at2 .ensures .1;
     }
 
--- src/lib.rt:68:25
 slice-aggregate-word-at : tie.Need-slice-aggregate-word-at Inv-loop μ-loop
 slice-aggregate-word-at c = search needs
 
--- src/lib.rt:68:9
 word-at-requires : tie.Need-word-at-requires Inv-loop μ-loop
 word-at-requires c κs = search needs
 
--- src/lib.rt:69:24
 slice-aggregate-word-at-2 : tie.Need-slice-aggregate-word-at-2 Inv-loop μ-loop
 slice-aggregate-word-at-2 c = search needs
 
--- src/lib.rt:69:9
 word-at-requires-2 : tie.Need-word-at-requires-2 Inv-loop μ-loop
 word-at-requires-2 c κs = search needs
 
--- src/lib.rt:70:15
 mul-end : tie.Need-mul-end Inv-loop μ-loop
 mul-end c = search needs
 
--- src/lib.rt:72:5
 loop-holds : tie.Need-loop-holds Inv-loop μ-loop
 loop-holds c =
     let p = c .before .before .before .before .before .args in
     (omega arith, come-first (p .table .now) 0 _ _)
 
--- src/lib.rt:73:18
 add-if1 : tie.Need-add-if1 Inv-loop μ-loop
 add-if1 c = search needs
 
--- src/lib.rt:73:12
 shared-slice-read-if1 : tie.Need-shared-slice-read-if1 Inv-loop μ-loop
 shared-slice-read-if1 c = search needs
 
--- src/lib.rt:74:13
 find-from-requires : tie.Need-find-from-requires Inv-loop μ-loop
 find-from-requires c κs = omega (arith, c .before .before .before .loop .inv .1 .whole)
 
--- src/lib.rt:74:13
 returns : tie.Need-returns Inv-loop μ-loop
 returns c =
     let l = c .before .before .before .before in
@@ -79,15 +65,12 @@ returns c =
     let p = w .before .before .before .before .before .args in
     c .find-from .ensures ∙ l .loop .inv .1 .so (p .t2) (spelt w) ∙ from-first (p .table .now) (p .t2)
 
--- src/lib.rt:76:12
 has-words-requires : tie.Need-has-words-requires Inv-loop μ-loop
 has-words-requires c κs = search needs
 
--- src/lib.rt:77:30
 add-t22 : tie.Need-add-t22 Inv-loop μ-loop
 add-t22 c = search needs
 
--- src/lib.rt:77:13
 returns-2 : tie.Need-returns-2 Inv-loop μ-loop
 returns-2 c =
     let u = c .before .before in
@@ -98,15 +81,12 @@ returns-2 c =
     come-here (p .table .now) 0 _ _ (l .loop .at) (l .loop .inv .1) (omega arith) tag _ (c .before .has-words .ensures) (c .if2 .taken) (p .t2) (spelt w)
     ∙ from-first (p .table .now) (p .t2)
 
--- src/lib.rt:79:9
 add-at : tie.Need-add-at Inv-loop μ-loop
 add-at c = search needs
 
--- src/lib.rt:72:5
 loop-less : tie.Need-loop-less Inv-loop μ-loop
 loop-less c = search needs
 
--- src/lib.rt:72:5
 loop-again : tie.Need-loop-again Inv-loop μ-loop
 loop-again c =
     let u = c .before .before in
@@ -115,7 +95,6 @@ loop-again c =
     let tag = tags-are (getD (p .table .now) (l .loop .at + 13) 0) (inl (omega (arith, u .if1 .left))) in
     (omega (arith, l .loop .inv .1 .whole), come-on (p .table .now) 0 _ _ (l .loop .at) (l .loop .inv .1) (omega arith) tag _ (c .before .has-words .ensures) (c .if2 .left))
 
--- src/lib.rt:65:1
 returns-3 : tie.Need-returns-3 Inv-loop μ-loop
 returns-3 c =
     let l = c .before in

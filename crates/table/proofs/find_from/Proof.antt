@@ -1,4 +1,5 @@
-use Prim.Native.Nat.{ℕ, _≤_, _-_}
+-- `table::find_from` meets its contract. In the loop the search from index i on has come to the present byte.
+use Prim.Native.Nat.{_≤_, _-_}
 use mathlib.Core.Path.{sym, _∙_}
 use native.Mathlib.Omega.{arith}
 use borrow.Author.Tests.{not-true, not-false}
@@ -7,11 +8,6 @@ use Rattle.table.proofs.Search.{Come, come-first, come-end, come-stop, 
 use borrow.Author.Needs.{needs}
 use Rattle.table.proofs.find_from.Statement.{statement}
 use Rattle.table.proofs.find_from.Tie as tie
-use Rattle.table.proofs.find_from.Reads as reads
-use Rattle.table.proofs.find_from.Lts as lts
-use Rattle.table.proofs.has_words.Reads as has-words-reads
-use Rattle.table.proofs.used_tag.Reads as used-tag-reads
-use Rattle.table.proofs.word_at.Reads as word-at-reads
 
 abbrev Inv-loop : tie.InvT-loop
 Inv-loop table i front back end at₀ at = (at ≤ end) × Come table i front back at
@@ -31,49 +27,38 @@ spelt w =
       back-bytes = w .word-at2 .ensures .1;
     }
 
--- src/lib.rt:193:25
 slice-aggregate-word-at : tie.Need-slice-aggregate-word-at Inv-loop μ-loop
 slice-aggregate-word-at c = search needs
 
--- src/lib.rt:193:9
 word-at-requires : tie.Need-word-at-requires Inv-loop μ-loop
 word-at-requires c κs = search needs
 
--- src/lib.rt:194:24
 slice-aggregate-word-at-2 : tie.Need-slice-aggregate-word-at-2 Inv-loop μ-loop
 slice-aggregate-word-at-2 c = search needs
 
--- src/lib.rt:194:9
 word-at-requires-2 : tie.Need-word-at-requires-2 Inv-loop μ-loop
 word-at-requires-2 c κs = search needs
 
--- src/lib.rt:195:15
 mul-end : tie.Need-mul-end Inv-loop μ-loop
 mul-end c = search needs
 
--- src/lib.rt:196:18
 mul-at : tie.Need-mul-at Inv-loop μ-loop
 mul-at c = search needs
 
--- src/lib.rt:197:5
 loop-holds : tie.Need-loop-holds Inv-loop μ-loop
 loop-holds c =
     let p = c .before .before .before .before .before .args in
     (omega arith, come-first (p .table .now) (p .i) _ _)
 
--- src/lib.rt:198:28
 add-used-tag : tie.Need-add-used-tag Inv-loop μ-loop
 add-used-tag c = search needs
 
--- src/lib.rt:198:22
 shared-slice-read-used-tag : tie.Need-shared-slice-read-used-tag Inv-loop μ-loop
 shared-slice-read-used-tag c = search needs
 
--- src/lib.rt:198:13
 used-tag-requires : tie.Need-used-tag-requires Inv-loop μ-loop
 used-tag-requires c κs = search needs
 
--- src/lib.rt:199:13
 returns : tie.Need-returns Inv-loop μ-loop
 returns c =
     let l = c .before .before .before .before in
@@ -82,15 +67,12 @@ returns c =
     let tag = sym (c .before .used-tag .ensures) ∙ not-true _ (c .if1 .taken) in
     come-stop (p .table .now) (p .i) _ _ (l .loop .at) (l .loop .inv .1) (omega arith) tag (p .t3) (spelt w)
 
--- src/lib.rt:201:12
 has-words-requires : tie.Need-has-words-requires Inv-loop μ-loop
 has-words-requires c κs = search needs
 
--- src/lib.rt:202:30
 add-t23 : tie.Need-add-t23 Inv-loop μ-loop
 add-t23 c = search needs
 
--- src/lib.rt:202:13
 returns-2 : tie.Need-returns-2 Inv-loop μ-loop
 returns-2 c =
     let u = c .before .before in
@@ -100,15 +82,12 @@ returns-2 c =
     let tag = sym (u .before .used-tag .ensures) ∙ not-false _ (u .if1 .left) in
     come-here (p .table .now) (p .i) _ _ (l .loop .at) (l .loop .inv .1) (omega arith) tag _ (c .before .has-words .ensures) (c .if2 .taken) (p .t3) (spelt w)
 
--- src/lib.rt:204:9
 add-at : tie.Need-add-at Inv-loop μ-loop
 add-at c = search needs
 
--- src/lib.rt:197:5
 loop-less : tie.Need-loop-less Inv-loop μ-loop
 loop-less c = search needs
 
--- src/lib.rt:197:5
 loop-again : tie.Need-loop-again Inv-loop μ-loop
 loop-again c =
     let u = c .before .before in
@@ -117,7 +96,6 @@ loop-again c =
     let tag = sym (u .before .used-tag .ensures) ∙ not-false _ (u .if1 .left) in
     (omega (arith, l .loop .inv .1 .whole), come-on (p .table .now) (p .i) _ _ (l .loop .at) (l .loop .inv .1) (omega arith) tag _ (c .before .has-words .ensures) (c .if2 .left))
 
--- src/lib.rt:189:1
 returns-3 : tie.Need-returns-3 Inv-loop μ-loop
 returns-3 c =
     let l = c .before in

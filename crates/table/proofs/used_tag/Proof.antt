@@ -1,6 +1,4 @@
 -- `table::used_tag` meets its contract, one case for each return.
-use lib.Dec.{eqb}
-use mathlib.Core.Path.{refl}
 use borrow.Author.Tests.{eq-eqb, ne-eqb}
 use Rattle.table.specs.Table.{usedTag}
 use Rattle.table.proofs.used_tag.Statement.{statement}
