@@ -22,6 +22,10 @@ pub record Spelt (key : List ℕ) (front back : ℕ) : Type 0 where
   pub front-bytes : BytesAt key 0 8
   pub back-bytes : BytesAt key 5 8
 
+pub spells : (key : List ℕ) (front back : ℕ) → length key ≡ 13 → (front ≡ wordAt key 0) × BytesAt key 0 8
+    → (back ≡ wordAt key 5) × BytesAt key 5 8 → Spelt key front back
+spells key front back n f b = record { whole = n; front-word = f .0; back-word = b .0; front-bytes = f .1; back-bytes = b .1 }
+
 -- a place that is written in two ways
 moved : (l : List ℕ) (i j : ℕ) → i ≡ j → getD l i 0 ≡ getD l j 0
 moved l i j e = ap (λ (k : ℕ). getD l k 0) e

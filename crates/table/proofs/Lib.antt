@@ -1,7 +1,7 @@
 pub mod Keys
 pub mod Places
 pub mod Moves
-pub mod Search
+pub mod Searching
 pub mod Parts
 pub mod Packing
 pub mod Removals

@@ -1,13 +1,12 @@
 // The tracking table: records of 20 bytes in a lent buffer. Places are counted from 1.
+mod search;
+
 ghost use mathlib.Core.Path.{_≡_};
 ghost use mathlib.Core.List.{_++_};
 ghost use Prim.Native.Nat.{_+_, _*_, _-_, _<_, _≤_};
 ghost use lib.ListN.{length, take, drop, replicate};
 ghost use lib.Seq.{paste};
-ghost use mathlib.Core.Bool.{false, cond};
-ghost use lib.Dec.{eqb};
-ghost use Rattle.words.specs.Words.{wordAt, BytesAt};
-ghost use Rattle.table.specs.Table.{usedTag, used as used-of, recordsOf, usedAmong, findAmong, find as find-of, findingOf, serverAt, tagAt, newRecord, writtenAfter, halfClosed, removed, removedServer, started, recordBytes, keyBytes};
+ghost use Rattle.table.specs.Table.{usedTag, used as used-of, find as find-of, findingOf, serverAt, tagAt, newRecord, writtenAfter, halfClosed, removed, removedServer, started, recordBytes, keyBytes};
 
 // A tracking record's bytes: the key, the tag, two zeros, the server's four bytes.
 pub const RECORD_BYTES: usize = 20;
@@ -61,19 +60,19 @@ pub fn used(table: &[u8]) -> usize
 }
 
 // The first used record with a key. The records before the first half-closed one are passed here, where one tag is asked for: that is one
-// comparison. From there on `find_from` goes on. The loop counts bytes, and only its end counts records: so it has one number to carry.
+// comparison. From there on `search::find_on` asks for both. The loop counts bytes, and only its end counts records: so it has one number to carry.
 pub fn find(table: &[u8], key: [u8; KEY_BYTES]) -> Found
     ensures { λ r. ⌜ findingOf r ≡ find-of key (now (table .entry)) ⌝ }
 {
-    let front = word_at(&key, 0);
-    let back = word_at(&key, 5);
+    let front = search::word_at(&key, 0);
+    let back = search::word_at(&key, 5);
     let end = table.len() / RECORD_BYTES * RECORD_BYTES;
     let mut at = 0;
     while at < end {
         if table[at + TAG_OFFSET] != NEW_TAG {
-            return find_from(table, at / RECORD_BYTES, key);
+            return search::find_on(table, at / RECORD_BYTES, key);
         }
-        if has_words(table, at, front, back) {
+        if search::has_words(table, at, front, back) {
             return Found::At(at / RECORD_BYTES + 1);
         }
         at += RECORD_BYTES;
@@ -176,34 +175,13 @@ pub fn start(table: &mut [u8])
 }
 
 // Whether a record with this tag is used.
-fn used_tag(tag: u8) -> bool
+pub(crate) fn used_tag(tag: u8) -> bool
     ensures { λ r. ⌜ r ≡ usedTag tag ⌝ }
 {
     if tag == NEW_TAG {
         return true;
     }
     tag == HALF_CLOSED_TAG
-}
-
-// The first used record with a key among those from index i on, counted from 0.
-fn find_from(table: &[u8], i: usize, key: [u8; KEY_BYTES]) -> Found
-    requires { ⌜ i * recordBytes ≤ length (now table) ⌝ }
-    ensures { λ r. ⌜ findingOf r ≡ findAmong key i (usedAmong (drop i (recordsOf (now (table .entry))))) ⌝ }
-{
-    let front = word_at(&key, 0);
-    let back = word_at(&key, 5);
-    let end = table.len() / RECORD_BYTES * RECORD_BYTES;
-    let mut at = i * RECORD_BYTES;
-    while at < end {
-        if !used_tag(table[at + TAG_OFFSET]) {
-            return Found::Nothing(at / RECORD_BYTES);
-        }
-        if has_words(table, at, front, back) {
-            return Found::At(at / RECORD_BYTES + 1);
-        }
-        at += RECORD_BYTES;
-    }
-    Found::Nothing(at / RECORD_BYTES)
 }
 
 // Copies a key to the front of a span.
@@ -262,35 +240,4 @@ fn keep(table: &mut [u8], i: usize, w: usize)
         table[to + k] = table[from + k];
         k += 1;
     }
-}
-
-// The number that the eight bytes from a place on spell, the lowest first; they are bytes.
-fn word_at(s: &[u8], at: usize) -> u64
-    requires { ⌜ at + 8 ≤ length (now s) ⌝ }
-    ensures { λ r. ⌜ (r ≡ wordAt (now (s .entry)) at) × BytesAt (now (s .entry)) at 8 ⌝ }
-{
-    words::join8(
-        s[at],
-        s[at + 1],
-        s[at + 2],
-        s[at + 3],
-        s[at + 4],
-        s[at + 5],
-        s[at + 6],
-        s[at + 7],
-    )
-}
-
-// Whether the 13 bytes from a place on have these two words: their first eight bytes the one, their last eight the other.
-// The last are looked at first: the keys of one address differ there.
-fn has_words(table: &[u8], at: usize, front: u64, back: u64) -> bool
-    requires { ⌜ at + keyBytes ≤ length (now table) ⌝ }
-    ensures { λ r. ⌜ (r ≡ cond (eqb (wordAt (now (table .entry)) (at + 5)) back) (eqb (wordAt (now (table .entry)) at) front) false)
-        × (BytesAt (now (table .entry)) at 8 × BytesAt (now (table .entry)) (at + 5) 8) ⌝ }
-{
-    let first = word_at(table, at);
-    if word_at(table, at + 5) != back {
-        return false;
-    }
-    first == front
 }

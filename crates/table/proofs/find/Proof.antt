@@ -1,11 +1,11 @@
--- `table::find` meets its contract. In the loop the search from the front has come to the present byte; `find_from` goes on from there.
+-- `table::find` meets its contract. In the loop the search from the front has come to the present byte; `search::find_on` goes on from there.
 use Prim.Native.Nat.{_≤_, _-_, _+_}
 use mathlib.Core.Logic.{inl}
 use mathlib.Core.Path.{_∙_}
 use native.Mathlib.Omega.{arith}
 use lib.ListN.{getD}
-use Rattle.table.proofs.Keys.{Spelt}
-use Rattle.table.proofs.Search.{Come, from-first, come-first, come-end, come-here, come-on}
+use Rattle.table.proofs.Keys.{Spelt, spells}
+use Rattle.table.proofs.Searching.{Come, from-first, come-first, come-end, come-here, come-on}
 use Rattle.table.proofs.Parts.{tags-are}
 use borrow.Author.Needs.{needs}
 use Rattle.table.proofs.find.Statement.{statement}
@@ -20,14 +20,7 @@ abbrev μ-loop : tie.MeasureT-loop
 -- the numbers formed before the loop are the key's words
 spelt : (w : tie.After-word-at2 Inv-loop μ-loop)
     → Spelt (w .before .before .before .before .before .args .t2) (w .before .before .word-at .result) (w .word-at2 .result)
-spelt w =
-    record {
-      whole = omega arith;
-      front-word = w .before .before .word-at .ensures .0;
-      back-word = w .word-at2 .ensures .0;
-      front-bytes = w .before .before .word-at .ensures .1;
-      back-bytes = w .word-at2 .ensures .1;
-    }
+spelt w = spells _ _ _ (omega arith) (w .before .before .word-at .ensures) (w .word-at2 .ensures)
 
 slice-aggregate-word-at : tie.Need-slice-aggregate-word-at Inv-loop μ-loop
 slice-aggregate-word-at c = search needs
@@ -55,15 +48,15 @@ add-if1 c = search needs
 shared-slice-read-if1 : tie.Need-shared-slice-read-if1 Inv-loop μ-loop
 shared-slice-read-if1 c = search needs
 
-find-from-requires : tie.Need-find-from-requires Inv-loop μ-loop
-find-from-requires c κs = omega (arith, c .before .before .before .loop .inv .1 .whole)
+find-on-requires : tie.Need-find-on-requires Inv-loop μ-loop
+find-on-requires c κs = omega (arith, c .before .before .before .loop .inv .1 .whole)
 
 returns : tie.Need-returns Inv-loop μ-loop
 returns c =
     let l = c .before .before .before .before in
     let w = l .before in
     let p = w .before .before .before .before .before .args in
-    c .find-from .ensures ∙ l .loop .inv .1 .so (p .t2) (spelt w) ∙ from-first (p .table .now) (p .t2)
+    c .find-on .ensures ∙ l .loop .inv .1 .so (p .t2) (spelt w) ∙ from-first (p .table .now) (p .t2)
 
 has-words-requires : tie.Need-has-words-requires Inv-loop μ-loop
 has-words-requires c κs = search needs
@@ -117,7 +110,7 @@ find-spec =
     loop-holds
     add-if1
     shared-slice-read-if1
-    find-from-requires
+    find-on-requires
     returns
     has-words-requires
     add-t22

@@ -1,11 +1,11 @@
--- `table::has_words` meets its contract.
+-- `table::search::has_words` meets its contract.
 use Prim.Native.Nat.{_+_}
 use mathlib.Core.Path.{sym, _∙_}
 use borrow.Author.Tests.{eq-eqb, ne-eqb}
 use borrow.Author.Needs.{needs}
 use Rattle.words.specs.Words.{wordAt}
-use Rattle.table.proofs.has_words.Statement.{statement}
-use Rattle.table.proofs.has_words.Tie as tie
+use Rattle.table.proofs.search.has_words.Statement.{statement}
+use Rattle.table.proofs.search.has_words.Tie as tie
 
 word-at-requires : tie.Need-word-at-requires
 word-at-requires c κs = search needs

@@ -1,29 +1,19 @@
 -- The search for a key from an index on, by words and counted in bytes: where it has come to, and its ways on from there.
 use Prim.Native.Nat.{ℕ, _+_, _*_, _/_, _%_, _<_, _≤_}
-use mathlib.Core.Bool.{Bool, true, false, cond}
+use mathlib.Core.Bool.{Bool, true, false}
 use mathlib.Core.List.{List}
 use mathlib.Core.Path.{_≡_, refl, _∙_}
 use native.Mathlib.Omega.{arith}
-use lib.Dec.{eqb}
 use lib.ListN.{getD, take, drop}
-use Rattle.words.specs.Words.{wordAt, BytesAt}
 use Rattle.spans.specs.Spans.{same}
-use Rattle.table.specs.Table.{usedTag, recordsOf, usedAmong, usedPart, room, Finding, findAmong, find}
+use Rattle.table.specs.Table.{usedTag, usedPart, room, find}
+use Rattle.table.specs.Searching.{findFrom, Words, PassedBy}
 use Rattle.table.proofs.Keys.{Spelt, spelt-same}
 use Rattle.table.proofs.Places.{find-stop, find-here, find-more, find-end}
-
--- what looking from an index on gives
-abbrev pub findFrom : List ℕ → List ℕ → ℕ → Finding
-findFrom t key i = findAmong key i (usedAmong (drop i (recordsOf t)))
 
 pub from-first : (t key : List ℕ) → findFrom t key 0 ≡ find key t
 unfolding find usedPart
 from-first t key = refl
-
--- what the test by words says of the record at a byte
-abbrev pub Words : List ℕ → ℕ → ℕ → ℕ → Bool → Type 0
-Words t at front back r =
-    (r ≡ cond (eqb (wordAt t (at + 5)) back) (eqb (wordAt t at) front) false) × (BytesAt t at 8 × BytesAt t (at + 5) 8)
 
 -- the search from index i on has come to a byte where a record begins: looking from there on gives the whole answer, whichever key has these two words
 pub record Come (t : List ℕ) (i front back at : ℕ) : Type 0 where
@@ -62,3 +52,20 @@ module _ (t : List ℕ) (i front back at : ℕ) (c : Come t i front back at) whe
             whole = omega (arith, c .whole);
             so = λ key k. rw next (find-more t (at / 20) within key _ (c .so key k) (rw here tag) (told key k ∙ e));
           }
+
+  -- a record that the search passes, and four of them
+  pub come-past : at / 20 < room t → PassedBy t at front back → Come t i front back (at + 20)
+  come-past within p = come-on within (p .tag) false (p .words) refl
+
+pub come-fours : (t : List ℕ) (i front back at : ℕ) → Come t i front back at → at + 80 ≤ room t * 20
+    → PassedBy t at front back × PassedBy t (at + 20) front back × PassedBy t (at + 40) front back × PassedBy t (at + 60) front back
+    → Come t i front back (at + 80)
+come-fours t i front back at c h p =
+    let n₁ : at + 20 + 20 ≡ at + 40 = omega arith in
+    let n₂ : at + 40 + 20 ≡ at + 60 = omega arith in
+    let n₃ : at + 60 + 20 ≡ at + 80 = omega arith in
+    let w = c .whole in
+    let c₁ = come-past t i front back at c (omega arith) (p .0) in
+    let c₂ : Come t i front back (at + 40) = rw n₁ at (come-past t i front back (at + 20) c₁ (omega arith) (p .1)) in
+    let c₃ : Come t i front back (at + 60) = rw n₂ at (come-past t i front back (at + 40) c₂ (omega arith) (p .2)) in
+    rw n₃ at (come-past t i front back (at + 60) c₃ (omega arith) (p .3))

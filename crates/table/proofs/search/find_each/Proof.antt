@@ -1,13 +1,13 @@
--- `table::find_from` meets its contract. In the loop the search from index i on has come to the present byte.
+-- `table::search::find_each` meets its contract. In the loop the search from index i on has come to the present byte.
 use Prim.Native.Nat.{_≤_, _-_}
 use mathlib.Core.Path.{sym, _∙_}
 use native.Mathlib.Omega.{arith}
 use borrow.Author.Tests.{not-true, not-false}
-use Rattle.table.proofs.Keys.{Spelt}
-use Rattle.table.proofs.Search.{Come, come-first, come-end, come-stop, come-here, come-on}
+use Rattle.table.proofs.Keys.{Spelt, spells}
+use Rattle.table.proofs.Searching.{Come, come-first, come-end, come-stop, come-here, come-on}
 use borrow.Author.Needs.{needs}
-use Rattle.table.proofs.find_from.Statement.{statement}
-use Rattle.table.proofs.find_from.Tie as tie
+use Rattle.table.proofs.search.find_each.Statement.{statement}
+use Rattle.table.proofs.search.find_each.Tie as tie
 
 abbrev Inv-loop : tie.InvT-loop
 Inv-loop table i front back end at₀ at = (at ≤ end) × Come table i front back at
@@ -18,14 +18,7 @@ abbrev μ-loop : tie.MeasureT-loop
 -- the numbers formed before the loop are the key's words
 spelt : (w : tie.After-word-at2 Inv-loop μ-loop)
     → Spelt (w .before .before .before .before .before .args .t3) (w .before .before .word-at .result) (w .word-at2 .result)
-spelt w =
-    record {
-      whole = omega arith;
-      front-word = w .before .before .word-at .ensures .0;
-      back-word = w .word-at2 .ensures .0;
-      front-bytes = w .before .before .word-at .ensures .1;
-      back-bytes = w .word-at2 .ensures .1;
-    }
+spelt w = spells _ _ _ (omega arith) (w .before .before .word-at .ensures) (w .word-at2 .ensures)
 
 slice-aggregate-word-at : tie.Need-slice-aggregate-word-at Inv-loop μ-loop
 slice-aggregate-word-at c = search needs
@@ -103,8 +96,8 @@ returns-3 c =
     let p = w .before .before .before .before .before .args in
     come-end (p .table .now) (p .i) _ _ (l .loop .at) (l .loop .inv .1) (omega arith) (p .t3) (spelt w)
 
-pub find-from-spec : {M : Type 1} → statement M
-find-from-spec =
+pub find-each-spec : {M : Type 1} → statement M
+find-each-spec =
     tie.close
     (tie.spec
     Inv-loop

@@ -1,10 +1,10 @@
--- `table::word_at` meets its contract.
+-- `table::search::word_at` meets its contract.
 use Prim.Native.Nat.{_+_}
 use native.Mathlib.Omega.{arith}
 use borrow.Author.Needs.{needs}
 use Rattle.words.specs.Words.{wordAt}
-use Rattle.table.proofs.word_at.Statement.{statement}
-use Rattle.table.proofs.word_at.Tie as tie
+use Rattle.table.proofs.search.word_at.Statement.{statement}
+use Rattle.table.proofs.search.word_at.Tie as tie
 
 shared-slice-read-join8 : tie.Need-shared-slice-read-join8
 shared-slice-read-join8 c = search needs

@@ -1,0 +1,102 @@
+-- `table::search::pass_fours` meets its contract. In the loop the search from index i on has come to the present byte.
+use Prim.Native.Nat.{_≤_, _-_}
+use native.Mathlib.Omega.{arith}
+use borrow.Author.Tests.{not-false}
+use Rattle.table.proofs.Keys.{Spelt, spells}
+use Rattle.table.proofs.Searching.{Come, come-first, come-fours}
+use borrow.Author.Needs.{needs}
+use Rattle.table.proofs.search.pass_fours.Statement.{statement}
+use Rattle.table.proofs.search.pass_fours.Tie as tie
+
+abbrev Inv-loop : tie.InvT-loop
+Inv-loop table i front back end at₀ at = (at ≤ end) × Come table i front back at
+
+abbrev μ-loop : tie.MeasureT-loop
+μ-loop table i front back end at₀ at = end - at
+
+-- the numbers formed before the loop are the key's words
+spelt : (w : tie.After-word-at2 Inv-loop μ-loop)
+    → Spelt (w .before .before .before .before .before .args .t3) (w .before .before .word-at .result) (w .word-at2 .result)
+spelt w = spells _ _ _ (omega arith) (w .before .before .word-at .ensures) (w .word-at2 .ensures)
+
+slice-aggregate-word-at : tie.Need-slice-aggregate-word-at Inv-loop μ-loop
+slice-aggregate-word-at c = search needs
+
+word-at-requires : tie.Need-word-at-requires Inv-loop μ-loop
+word-at-requires c κs = search needs
+
+slice-aggregate-word-at-2 : tie.Need-slice-aggregate-word-at-2 Inv-loop μ-loop
+slice-aggregate-word-at-2 c = search needs
+
+word-at-requires-2 : tie.Need-word-at-requires-2 Inv-loop μ-loop
+word-at-requires-2 c κs = search needs
+
+mul-end : tie.Need-mul-end Inv-loop μ-loop
+mul-end c = search needs
+
+mul-at : tie.Need-mul-at Inv-loop μ-loop
+mul-at c = search needs
+
+loop-holds : tie.Need-loop-holds Inv-loop μ-loop
+loop-holds c =
+    let p = c .before .before .before .before .before .args in
+    (omega arith, come-first (p .table .now) (p .i) _ _)
+
+mul-loop : tie.Need-mul-loop Inv-loop μ-loop
+mul-loop c = search needs
+
+add-loop : tie.Need-add-loop Inv-loop μ-loop
+add-loop c = search needs
+
+four-pass-requires : tie.Need-four-pass-requires Inv-loop μ-loop
+four-pass-requires c κs = search needs
+
+returns : tie.Need-returns Inv-loop μ-loop
+returns c =
+    let l = c .before .before .before in
+    let p = l .before .before .before .before .before .before .args in
+    (omega arith, l .loop .inv .1 .so (p .t3) (spelt (l .before)))
+
+mul-at-2 : tie.Need-mul-at-2 Inv-loop μ-loop
+mul-at-2 c = search needs
+
+add-at : tie.Need-add-at Inv-loop μ-loop
+add-at c = search needs
+
+loop-less : tie.Need-loop-less Inv-loop μ-loop
+loop-less c = search needs
+
+loop-again : tie.Need-loop-again Inv-loop μ-loop
+loop-again c =
+    let l = c .before .before .before in
+    let p = l .before .before .before .before .before .before .args in
+    (omega arith, come-fours (p .table .now) (p .i) _ _ (l .loop .at) (l .loop .inv .1) (omega arith) (c .before .four-pass .ensures (not-false _ (c .if1 .left))))
+
+returns-2 : tie.Need-returns-2 Inv-loop μ-loop
+returns-2 c =
+    let l = c .before in
+    let p = l .before .before .before .before .before .before .args in
+    (omega arith, l .loop .inv .1 .so (p .t3) (spelt (l .before)))
+
+pub pass-fours-spec : {M : Type 1} → statement M
+pass-fours-spec =
+    tie.close
+    (tie.spec
+    Inv-loop
+    μ-loop
+    slice-aggregate-word-at
+    word-at-requires
+    slice-aggregate-word-at-2
+    word-at-requires-2
+    mul-end
+    mul-at
+    loop-holds
+    mul-loop
+    add-loop
+    four-pass-requires
+    returns
+    mul-at-2
+    add-at
+    loop-less
+    loop-again
+    returns-2)
