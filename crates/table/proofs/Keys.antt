@@ -12,15 +12,8 @@ use Rattle.sets.proofs.Cases.{both, clash, not-so}
 use Rattle.spans.specs.Spans.{same}
 use Rattle.spans.proofs.Scans.{same-equal, same-self}
 use Rattle.words.specs.Words.{wordAt, BytesAt}
+use Rattle.table.specs.Searching.{Spelt}
 use Rattle.words.proofs.Digits.{word-bytes, bytes-word}
-
--- two numbers are a key's words: what its first eight bytes and its last eight spell
-pub record Spelt (key : List ℕ) (front back : ℕ) : Type 0 where
-  pub whole : length key ≡ 13
-  pub front-word : front ≡ wordAt key 0
-  pub back-word : back ≡ wordAt key 5
-  pub front-bytes : BytesAt key 0 8
-  pub back-bytes : BytesAt key 5 8
 
 pub spells : (key : List ℕ) (front back : ℕ) → length key ≡ 13 → (front ≡ wordAt key 0) × BytesAt key 0 8
     → (back ≡ wordAt key 5) × BytesAt key 5 8 → Spelt key front back

@@ -7,8 +7,8 @@ use native.Mathlib.Omega.{arith}
 use lib.ListN.{getD, take, drop}
 use Rattle.spans.specs.Spans.{same}
 use Rattle.table.specs.Table.{usedTag, usedPart, room, find}
-use Rattle.table.specs.Searching.{findFrom, Words, PassedBy}
-use Rattle.table.proofs.Keys.{Spelt, spelt-same}
+use Rattle.table.specs.Searching.{findFrom, Spelt, Words, PassedBy}
+use Rattle.table.proofs.Keys.{spelt-same}
 use Rattle.table.proofs.Places.{find-stop, find-here, find-more, find-end}
 
 pub from-first : (t key : List ℕ) → findFrom t key 0 ≡ find key t

@@ -1,36 +1,31 @@
 // The search for a key's record among records of which some are half-closed. A key is compared by two words of eight bytes.
 use crate::Found;
-use crate::KEY_BYTES;
 use crate::RECORD_BYTES;
 use crate::TAG_OFFSET;
 ghost use mathlib.Core.Path.{_≡_};
 ghost use mathlib.Core.Bool.{true};
-ghost use Prim.Native.Nat.{_+_, _*_, _≤_};
+ghost use mathlib.Core.List.{List};
+ghost use Prim.Native.Nat.{ℕ, _+_, _*_, _≤_};
 ghost use lib.ListN.{length};
 ghost use Rattle.words.specs.Words.{wordAt, BytesAt};
 ghost use Rattle.table.specs.Table.{findingOf, recordBytes, keyBytes};
-ghost use Rattle.table.specs.Searching.{findFrom, Words, PassedBy};
+ghost use Rattle.table.specs.Searching.{findFrom, Spelt, Answers, Words, PassedBy};
 
-// The first used record with a key from index i on, counted from 0. That the record there isn't used is told at once: so ends every search in
-// vain of a table in which no record is half-closed.
-pub(crate) fn find_on(table: &[u8], i: usize, key: [u8; KEY_BYTES]) -> Found
-    requires { ⌜ i * recordBytes + recordBytes ≤ length (now table) ⌝ }
-    ensures { λ r. ⌜ findingOf r ≡ findFrom (now (table .entry)) key i ⌝ }
+// The first used record with a key's two words from index i on, counted from 0.
+pub(crate) fn find_on(table: &[u8], i: usize, front: u64, back: u64) -> Found
+    requires { ⌜ i * recordBytes ≤ length (now table) ⌝ }
+    ensures { λ r. ⌜ Answers (now (table .entry)) i front back (findingOf r) ⌝ }
 {
-    if !crate::used_tag(table[i * RECORD_BYTES + TAG_OFFSET]) {
-        return Found::Nothing(i);
-    }
-    find_each(table, pass_fours(table, i, key), key)
+    find_each(table, pass_fours(table, i, front, back), front, back)
 }
 
 // Passes records with other keys from index i on, four at a time, and says where it stopped: with one record at a time the loop's own
 // counting would be two fifths of the work.
-fn pass_fours(table: &[u8], i: usize, key: [u8; KEY_BYTES]) -> usize
+fn pass_fours(table: &[u8], i: usize, front: u64, back: u64) -> usize
     requires { ⌜ i * recordBytes ≤ length (now table) ⌝ }
-    ensures { λ r. ⌜ (r * recordBytes ≤ length (now (table .entry))) × (findFrom (now (table .entry)) key r ≡ findFrom (now (table .entry)) key i) ⌝ }
+    ensures { λ r. ⌜ (r * recordBytes ≤ length (now (table .entry)))
+        × ((key : List ℕ) → Spelt key front back → findFrom (now (table .entry)) key r ≡ findFrom (now (table .entry)) key i) ⌝ }
 {
-    let front = word_at(&key, 0);
-    let back = word_at(&key, 5);
     let end = table.len() / RECORD_BYTES * RECORD_BYTES;
     let mut at = i * RECORD_BYTES;
     while at + 4 * RECORD_BYTES <= end {
@@ -43,12 +38,10 @@ fn pass_fours(table: &[u8], i: usize, key: [u8; KEY_BYTES]) -> usize
 }
 
 // The same search one record at a time.
-fn find_each(table: &[u8], i: usize, key: [u8; KEY_BYTES]) -> Found
+fn find_each(table: &[u8], i: usize, front: u64, back: u64) -> Found
     requires { ⌜ i * recordBytes ≤ length (now table) ⌝ }
-    ensures { λ r. ⌜ findingOf r ≡ findFrom (now (table .entry)) key i ⌝ }
+    ensures { λ r. ⌜ Answers (now (table .entry)) i front back (findingOf r) ⌝ }
 {
-    let front = word_at(&key, 0);
-    let back = word_at(&key, 5);
     let end = table.len() / RECORD_BYTES * RECORD_BYTES;
     let mut at = i * RECORD_BYTES;
     while at < end {

@@ -1,26 +1,36 @@
--- `table::find` meets its contract. In the loop the search from the front has come to the present byte; `search::find_on` goes on from there.
-use Prim.Native.Nat.{_≤_, _-_, _+_}
+-- `table::find` meets its contract. In the loop the search from the front has come to the present byte.
+use Prim.Native.Nat.{_≤_, _-_, _+_, _/_}
 use mathlib.Core.Logic.{inl}
-use mathlib.Core.Path.{_∙_}
+use mathlib.Core.Path.{_≡_, _∙_}
 use native.Mathlib.Omega.{arith}
 use lib.ListN.{getD}
-use Rattle.table.proofs.Keys.{Spelt, spells}
-use Rattle.table.proofs.Searching.{Come, from-first, come-first, come-end, come-here, come-on}
+use Rattle.table.specs.Table.{find, Finding}
+use Rattle.table.specs.Searching.{Spelt, Answers}
+use Rattle.table.proofs.Keys.{spells}
+use Rattle.table.proofs.Searching.{Come, from-first, come-first, come-here, come-on}
 use Rattle.table.proofs.Parts.{tags-are}
 use borrow.Author.Needs.{needs}
 use Rattle.table.proofs.find.Statement.{statement}
 use Rattle.table.proofs.find.Tie as tie
 
 abbrev Inv-loop : tie.InvT-loop
-Inv-loop table key front back end at₀ at = (at ≤ end) × Come table 0 front back at
+Inv-loop table front back end at₀ at = (at ≤ end) × Come table 0 front back at
 
 abbrev μ-loop : tie.MeasureT-loop
-μ-loop table key front back end at₀ at = end - at
+μ-loop table front back end at₀ at = end - at
 
 -- the numbers formed before the loop are the key's words
 spelt : (w : tie.After-word-at2 Inv-loop μ-loop)
     → Spelt (w .before .before .before .before .before .args .t2) (w .before .before .word-at .result) (w .word-at2 .result)
 spelt w = spells _ _ _ (omega arith) (w .before .before .word-at .ensures) (w .word-at2 .ensures)
+
+-- who goes on from where the loop has come to has the whole answer
+rest : (l : tie.At-loop Inv-loop μ-loop) (f : Finding)
+    → Answers (l .before .before .before .before .before .before .args .table .now) (l .loop .at / 20) (l .before .before .before .word-at .result) (l .before .word-at2 .result) f
+    → f ≡ find (l .before .before .before .before .before .before .args .t2) (l .before .before .before .before .before .before .args .table .now)
+rest l f a =
+    let p = l .before .before .before .before .before .before .args in
+    a (p .t2) (spelt (l .before)) ∙ l .loop .inv .1 .so (p .t2) (spelt (l .before)) ∙ from-first (p .table .now) (p .t2)
 
 slice-aggregate-word-at : tie.Need-slice-aggregate-word-at Inv-loop μ-loop
 slice-aggregate-word-at c = search needs
@@ -48,21 +58,17 @@ add-if1 c = search needs
 shared-slice-read-if1 : tie.Need-shared-slice-read-if1 Inv-loop μ-loop
 shared-slice-read-if1 c = search needs
 
-find-on-requires : tie.Need-find-on-requires Inv-loop μ-loop
-find-on-requires c κs = omega (arith, c .before .before .before .loop .inv .1 .whole)
+find-behind-requires : tie.Need-find-behind-requires Inv-loop μ-loop
+find-behind-requires c κs = omega (arith, c .before .before .before .loop .inv .1 .whole)
 
 returns : tie.Need-returns Inv-loop μ-loop
-returns c =
-    let l = c .before .before .before .before in
-    let w = l .before in
-    let p = w .before .before .before .before .before .args in
-    c .find-on .ensures ∙ l .loop .inv .1 .so (p .t2) (spelt w) ∙ from-first (p .table .now) (p .t2)
+returns c = rest (c .before .before .before .before) _ (c .find-behind .ensures)
 
 has-words-requires : tie.Need-has-words-requires Inv-loop μ-loop
 has-words-requires c κs = search needs
 
-add-t22 : tie.Need-add-t22 Inv-loop μ-loop
-add-t22 c = search needs
+add-t21 : tie.Need-add-t21 Inv-loop μ-loop
+add-t21 c = search needs
 
 returns-2 : tie.Need-returns-2 Inv-loop μ-loop
 returns-2 c =
@@ -88,13 +94,11 @@ loop-again c =
     let tag = tags-are (getD (p .table .now) (l .loop .at + 13) 0) (inl (omega (arith, u .if1 .left))) in
     (omega (arith, l .loop .inv .1 .whole), come-on (p .table .now) 0 _ _ (l .loop .at) (l .loop .inv .1) (omega arith) tag _ (c .before .has-words .ensures) (c .if2 .left))
 
+find-on-requires : tie.Need-find-on-requires Inv-loop μ-loop
+find-on-requires c κs = omega arith
+
 returns-3 : tie.Need-returns-3 Inv-loop μ-loop
-returns-3 c =
-    let l = c .before in
-    let w = l .before in
-    let p = w .before .before .before .before .before .args in
-    come-end (p .table .now) 0 _ _ (l .loop .at) (l .loop .inv .1) (omega arith) (p .t2) (spelt w)
-    ∙ from-first (p .table .now) (p .t2)
+returns-3 c = rest (c .before .before) _ (c .find-on .ensures)
 
 pub find-spec : {M : Type 1} → statement M
 find-spec =
@@ -110,12 +114,13 @@ find-spec =
     loop-holds
     add-if1
     shared-slice-read-if1
-    find-on-requires
+    find-behind-requires
     returns
     has-words-requires
-    add-t22
+    add-t21
     returns-2
     add-at
     loop-less
     loop-again
+    find-on-requires
     returns-3)

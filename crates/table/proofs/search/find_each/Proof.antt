@@ -3,7 +3,6 @@ use Prim.Native.Nat.{_≤_, _-_}
 use mathlib.Core.Path.{sym, _∙_}
 use native.Mathlib.Omega.{arith}
 use borrow.Author.Tests.{not-true, not-false}
-use Rattle.table.proofs.Keys.{Spelt, spells}
 use Rattle.table.proofs.Searching.{Come, come-first, come-end, come-stop, come-here, come-on}
 use borrow.Author.Needs.{needs}
 use Rattle.table.proofs.search.find_each.Statement.{statement}
@@ -15,23 +14,6 @@ Inv-loop table i front back end at₀ at = (at ≤ end) × Come table i front ba
 abbrev μ-loop : tie.MeasureT-loop
 μ-loop table i front back end at₀ at = end - at
 
--- the numbers formed before the loop are the key's words
-spelt : (w : tie.After-word-at2 Inv-loop μ-loop)
-    → Spelt (w .before .before .before .before .before .args .t3) (w .before .before .word-at .result) (w .word-at2 .result)
-spelt w = spells _ _ _ (omega arith) (w .before .before .word-at .ensures) (w .word-at2 .ensures)
-
-slice-aggregate-word-at : tie.Need-slice-aggregate-word-at Inv-loop μ-loop
-slice-aggregate-word-at c = search needs
-
-word-at-requires : tie.Need-word-at-requires Inv-loop μ-loop
-word-at-requires c κs = search needs
-
-slice-aggregate-word-at-2 : tie.Need-slice-aggregate-word-at-2 Inv-loop μ-loop
-slice-aggregate-word-at-2 c = search needs
-
-word-at-requires-2 : tie.Need-word-at-requires-2 Inv-loop μ-loop
-word-at-requires-2 c κs = search needs
-
 mul-end : tie.Need-mul-end Inv-loop μ-loop
 mul-end c = search needs
 
@@ -40,7 +22,7 @@ mul-at c = search needs
 
 loop-holds : tie.Need-loop-holds Inv-loop μ-loop
 loop-holds c =
-    let p = c .before .before .before .before .before .args in
+    let p = c .before .args in
     (omega arith, come-first (p .table .now) (p .i) _ _)
 
 add-used-tag : tie.Need-add-used-tag Inv-loop μ-loop
@@ -55,25 +37,23 @@ used-tag-requires c κs = search needs
 returns : tie.Need-returns Inv-loop μ-loop
 returns c =
     let l = c .before .before .before .before in
-    let w = l .before in
-    let p = w .before .before .before .before .before .args in
+    let p = l .before .before .args in
     let tag = sym (c .before .used-tag .ensures) ∙ not-true _ (c .if1 .taken) in
-    come-stop (p .table .now) (p .i) _ _ (l .loop .at) (l .loop .inv .1) (omega arith) tag (p .t3) (spelt w)
+    come-stop (p .table .now) (p .i) _ _ (l .loop .at) (l .loop .inv .1) (omega arith) tag
 
 has-words-requires : tie.Need-has-words-requires Inv-loop μ-loop
 has-words-requires c κs = search needs
 
-add-t23 : tie.Need-add-t23 Inv-loop μ-loop
-add-t23 c = search needs
+add-t17 : tie.Need-add-t17 Inv-loop μ-loop
+add-t17 c = search needs
 
 returns-2 : tie.Need-returns-2 Inv-loop μ-loop
 returns-2 c =
     let u = c .before .before in
     let l = u .before .before .before .before in
-    let w = l .before in
-    let p = w .before .before .before .before .before .args in
+    let p = l .before .before .args in
     let tag = sym (u .before .used-tag .ensures) ∙ not-false _ (u .if1 .left) in
-    come-here (p .table .now) (p .i) _ _ (l .loop .at) (l .loop .inv .1) (omega arith) tag _ (c .before .has-words .ensures) (c .if2 .taken) (p .t3) (spelt w)
+    come-here (p .table .now) (p .i) _ _ (l .loop .at) (l .loop .inv .1) (omega arith) tag _ (c .before .has-words .ensures) (c .if2 .taken)
 
 add-at : tie.Need-add-at Inv-loop μ-loop
 add-at c = search needs
@@ -85,16 +65,15 @@ loop-again : tie.Need-loop-again Inv-loop μ-loop
 loop-again c =
     let u = c .before .before in
     let l = u .before .before .before .before in
-    let p = l .before .before .before .before .before .before .args in
+    let p = l .before .before .args in
     let tag = sym (u .before .used-tag .ensures) ∙ not-false _ (u .if1 .left) in
     (omega (arith, l .loop .inv .1 .whole), come-on (p .table .now) (p .i) _ _ (l .loop .at) (l .loop .inv .1) (omega arith) tag _ (c .before .has-words .ensures) (c .if2 .left))
 
 returns-3 : tie.Need-returns-3 Inv-loop μ-loop
 returns-3 c =
     let l = c .before in
-    let w = l .before in
-    let p = w .before .before .before .before .before .args in
-    come-end (p .table .now) (p .i) _ _ (l .loop .at) (l .loop .inv .1) (omega arith) (p .t3) (spelt w)
+    let p = l .before .before .args in
+    come-end (p .table .now) (p .i) _ _ (l .loop .at) (l .loop .inv .1) (omega arith)
 
 pub find-each-spec : {M : Type 1} → statement M
 find-each-spec =
@@ -102,10 +81,6 @@ find-each-spec =
     (tie.spec
     Inv-loop
     μ-loop
-    slice-aggregate-word-at
-    word-at-requires
-    slice-aggregate-word-at-2
-    word-at-requires-2
     mul-end
     mul-at
     loop-holds
@@ -114,7 +89,7 @@ find-each-spec =
     used-tag-requires
     returns
     has-words-requires
-    add-t23
+    add-t17
     returns-2
     add-at
     loop-less

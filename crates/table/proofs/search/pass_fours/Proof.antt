@@ -2,7 +2,6 @@
 use Prim.Native.Nat.{_≤_, _-_}
 use native.Mathlib.Omega.{arith}
 use borrow.Author.Tests.{not-false}
-use Rattle.table.proofs.Keys.{Spelt, spells}
 use Rattle.table.proofs.Searching.{Come, come-first, come-fours}
 use borrow.Author.Needs.{needs}
 use Rattle.table.proofs.search.pass_fours.Statement.{statement}
@@ -14,23 +13,6 @@ Inv-loop table i front back end at₀ at = (at ≤ end) × Come table i front ba
 abbrev μ-loop : tie.MeasureT-loop
 μ-loop table i front back end at₀ at = end - at
 
--- the numbers formed before the loop are the key's words
-spelt : (w : tie.After-word-at2 Inv-loop μ-loop)
-    → Spelt (w .before .before .before .before .before .args .t3) (w .before .before .word-at .result) (w .word-at2 .result)
-spelt w = spells _ _ _ (omega arith) (w .before .before .word-at .ensures) (w .word-at2 .ensures)
-
-slice-aggregate-word-at : tie.Need-slice-aggregate-word-at Inv-loop μ-loop
-slice-aggregate-word-at c = search needs
-
-word-at-requires : tie.Need-word-at-requires Inv-loop μ-loop
-word-at-requires c κs = search needs
-
-slice-aggregate-word-at-2 : tie.Need-slice-aggregate-word-at-2 Inv-loop μ-loop
-slice-aggregate-word-at-2 c = search needs
-
-word-at-requires-2 : tie.Need-word-at-requires-2 Inv-loop μ-loop
-word-at-requires-2 c κs = search needs
-
 mul-end : tie.Need-mul-end Inv-loop μ-loop
 mul-end c = search needs
 
@@ -39,7 +21,7 @@ mul-at c = search needs
 
 loop-holds : tie.Need-loop-holds Inv-loop μ-loop
 loop-holds c =
-    let p = c .before .before .before .before .before .args in
+    let p = c .before .args in
     (omega arith, come-first (p .table .now) (p .i) _ _)
 
 mul-loop : tie.Need-mul-loop Inv-loop μ-loop
@@ -54,8 +36,7 @@ four-pass-requires c κs = search needs
 returns : tie.Need-returns Inv-loop μ-loop
 returns c =
     let l = c .before .before .before in
-    let p = l .before .before .before .before .before .before .args in
-    (omega arith, l .loop .inv .1 .so (p .t3) (spelt (l .before)))
+    (omega arith, l .loop .inv .1 .so)
 
 mul-at-2 : tie.Need-mul-at-2 Inv-loop μ-loop
 mul-at-2 c = search needs
@@ -69,14 +50,13 @@ loop-less c = search needs
 loop-again : tie.Need-loop-again Inv-loop μ-loop
 loop-again c =
     let l = c .before .before .before in
-    let p = l .before .before .before .before .before .before .args in
+    let p = l .before .before .args in
     (omega arith, come-fours (p .table .now) (p .i) _ _ (l .loop .at) (l .loop .inv .1) (omega arith) (c .before .four-pass .ensures (not-false _ (c .if1 .left))))
 
 returns-2 : tie.Need-returns-2 Inv-loop μ-loop
 returns-2 c =
     let l = c .before in
-    let p = l .before .before .before .before .before .before .args in
-    (omega arith, l .loop .inv .1 .so (p .t3) (spelt (l .before)))
+    (omega arith, l .loop .inv .1 .so)
 
 pub pass-fours-spec : {M : Type 1} → statement M
 pass-fours-spec =
@@ -84,10 +64,6 @@ pass-fours-spec =
     (tie.spec
     Inv-loop
     μ-loop
-    slice-aggregate-word-at
-    word-at-requires
-    slice-aggregate-word-at-2
-    word-at-requires-2
     mul-end
     mul-at
     loop-holds
