@@ -101,7 +101,7 @@ did-along w s h bytes b a =
 module _ (e : Request) (found : Finding) (pick : Pick) (st : State) where
   draws-none : {c : Change} → Comes e found pick st c → c .state .roster .settings .method ≢ 2 → c .redraw ≡ false
   draws-none (turned n) m = refl
-  draws-none (packets t) m = packet-still (e .key) found pick st
+  draws-none (packets k t) m = packet-still (e .key) found pick st
   draws-none (ends k) m = end-still found st
   draws-none (enters t) m = ne-eqb _ 2 m
   draws-none (leaves t) m = ne-eqb _ 2 m

@@ -24,7 +24,7 @@ empty-holds st e =
 module _ (e : Request) (found : Finding) (pick : Pick) (st : State) where
   pub data Comes : Change → Type 0 where
     turned : (n : ℕ) → Comes (refused n st)
-    packets : stateOf (target found pick st) (st .roster) ≡ working → Comes (packet (e .key) found pick st)
+    packets : e .kind ≡ 1 → stateOf (target found pick st) (st .roster) ≡ working → Comes (packet (e .key) found pick st)
     ends : e .kind ≡ 2 → Comes (end found st)
     enters : stateOf (e .server) (st .roster) ≡ standby → Comes (changed (addedWorking (e .server) (st .roster)) (st .table) st)
     leaves : stateOf (e .server) (st .roster) ≡ working
@@ -36,7 +36,7 @@ module _ (e : Request) (found : Finding) (pick : Pick) (st : State) where
 
   by-kind : {k : ℕ} → Kind k → e .kind ≡ k → Passed e found pick st → Comes (effect e found pick st)
   unfolding effect
-  by-kind packet-kind k p = rw k (packets (p .led (eq-eqb (e .kind) 1 k)))
+  by-kind packet-kind k p = rw k (packets refl (p .led (eq-eqb (e .kind) 1 k)))
   by-kind end-kind k p = rw k (ends refl)
   by-kind addWorking k p = rw k (enters (p .enters (eq-eqb (e .kind) 3 k)))
   by-kind removeWorking k p = rw k (leaves (p .leaves (eq-eqb (e .kind) 4 k)))

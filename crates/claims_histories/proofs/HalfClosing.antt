@@ -1,0 +1,63 @@
+-- Records of which the one at a place is half-closed: the used part has it so, no key is recorded twice by it, and every record names the server
+-- that it named.
+use Prim.Native.Nat.{ℕ, zero, suc, _≤_}
+use mathlib.Core.List.{List, [], _∷_, map}
+use mathlib.Core.Path.{_≡_, refl, ap, _∙_}
+use native.Mathlib.Nat.{not-suc-le-zero, le-of-suc-le-suc}
+use native.Mathlib.Omega.{arith}
+use lib.Dec.{ltb}
+use lib.ListN.{length, getD, set}
+use borrow.Author.Tests.{ltb-true, ltb-false}
+use Rattle.sets.proofs.Cases.{both}
+use Rattle.roster.specs.declared.Roster.{Roster}
+use Rattle.table.specs.Table.{keyOf, recOf, usedPart, used, halfClosed}
+use Rattle.table.proofs.HalfClosed.{closedOnce, once-key, once-server, half-none, half-out, used-half}
+use Rattle.claims_histories.specs.Histories.{recorded, Distinct, AllWorking}
+
+-- the list whose record at a place, counted from 1, is half-closed
+abbrev pub closedAt : ℕ → List (List ℕ) → List (List ℕ)
+closedAt zero rs = rs
+closedAt (suc i) [] = []
+closedAt (suc zero) (r ∷ rs) = closedOnce r ∷ rs
+closedAt (suc (suc i)) (r ∷ rs) = r ∷ closedAt (suc i) rs
+
+closed-set : (i : ℕ) (rs : List (List ℕ)) → set rs i (closedOnce (getD rs i [])) ≡ closedAt (suc i) rs
+closed-set i [] = refl
+closed-set zero (r ∷ rs) = refl
+closed-set (suc i) (r ∷ rs) = ap (λ (l : List (List ℕ)). r ∷ l) (closed-set i rs)
+
+closed-out : (i : ℕ) (rs : List (List ℕ)) → length rs ≤ i → rs ≡ closedAt (suc i) rs
+closed-out i [] h = refl
+closed-out zero (r ∷ rs) h = absurd (not-suc-le-zero h)
+closed-out (suc i) (r ∷ rs) h = ap (λ (l : List (List ℕ)). r ∷ l) (closed-out i rs (le-of-suc-le-suc h))
+
+-- a table's used part, for any place
+pub used-closed : (t : List ℕ) (place : ℕ) → usedPart (halfClosed place t) ≡ closedAt place (usedPart t)
+used-closed t zero = rw (← (half-none t))
+used-closed t (suc i) =
+    both (ltb i (used t))
+    (λ e. used-half t i (ltb-true i (used t) e) ∙ closed-set i (usedPart t))
+    (λ e.
+    let out : used t ≤ i = ltb-false i (used t) e in
+    rw (← (half-out t (suc i) (omega arith))) (closed-out i (usedPart t) out))
+
+-- keys stay, so none is recorded twice
+recorded-closed : (key : List ℕ) (place : ℕ) (rs : List (List ℕ))
+    → recorded key (map recOf (closedAt place rs)) ≡ recorded key (map recOf rs)
+recorded-closed key zero rs = refl
+recorded-closed key (suc i) [] = refl
+recorded-closed key (suc zero) (r ∷ rs) = rw (once-key r)
+recorded-closed key (suc (suc i)) (r ∷ rs) = rw (recorded-closed key (suc i) rs)
+
+pub distinct-closed : (place : ℕ) (rs : List (List ℕ)) → Distinct (map recOf rs) → Distinct (map recOf (closedAt place rs))
+distinct-closed zero rs d = d
+distinct-closed (suc i) [] d = tt
+distinct-closed (suc zero) (r ∷ rs) d = (rw (once-key r) (d .0), d .1)
+distinct-closed (suc (suc i)) (r ∷ rs) d = (recorded-closed (keyOf r) (suc i) rs ∙ d .0, distinct-closed (suc i) rs (d .1))
+
+-- servers stay
+pub named-closed : (r : Roster) (place : ℕ) (rs : List (List ℕ)) → AllWorking r (map recOf rs) → AllWorking r (map recOf (closedAt place rs))
+named-closed r zero rs a = a
+named-closed r (suc i) [] a = tt
+named-closed r (suc zero) (x ∷ rs) a = (rw (once-server x) (a .0), a .1)
+named-closed r (suc (suc i)) (x ∷ rs) a = (a .0, named-closed r (suc i) rs (a .1))
