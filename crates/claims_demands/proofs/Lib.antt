@@ -9,6 +9,7 @@ pub mod Obeys
 pub mod Same
 pub mod Witness
 pub mod Impostors
+pub mod Endings
 pub mod Pretenders
 pub mod Roomless
 pub mod EveryEngine

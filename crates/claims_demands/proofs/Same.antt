@@ -19,7 +19,7 @@ use Rattle.table.proofs.Finds.{missing-reads}
 use Rattle.ringplan.specs.Plan.{some}
 use Rattle.ringplan.proofs.Members.{some-member}
 use Rattle.rules.specs.Answer.{Answer, accepts}
-use Rattle.rules.specs.Rules.{Change, is, packet, barred, judged}
+use Rattle.rules.specs.Rules.{Change, stateWith, is, packet, end, barred, effect, judged}
 use Rattle.claims_histories.specs.Histories.{AllBytes}
 use Rattle.claims_demands.specs.Demands.{Engine, rankingOf, mover, Unsafe, PacketRight, otherwise, Demand2}
 use Rattle.claims_demands.proofs.Packets.{flagged, unflagged}
@@ -90,6 +90,12 @@ module _ (n : ℕ) (E : Engine) (d : Demand2 n E) (h : List (List ℕ)) (bytes :
   unserved-seen v =
       let o = d .others h bytes b (λ key e works. clash (rw (e, works)) v) in
       record { answer = o .0; table = o .1; roster = o .2 }
+
+  -- an end of a key
+  pub end-seen : (key : List ℕ) → eventIn bytes ≡ asksKey 2 key
+      → Shows (end (find key (E .table h)) (stateWith (E .table h) [] [] (E .roster h))) (E .says h bytes) (E .table (bytes ∷ h)) (E .roster (bytes ∷ h))
+  unfolding judged barred effect
+  end-seen key e = rw e at (unserved-seen (rw e))
 
 -- a packet that an engine which obeys accepts found some server at work
 pub accepted-works : (n : ℕ) (E : Engine) → Demand2 n E → (h : List (List ℕ)) (bytes key : List ℕ) → AllBytes (bytes ∷ h)

@@ -1,6 +1,6 @@
 -- Records of which the one at a place is half-closed: the used part has it so, no key is recorded twice by it, and every record names the server
 -- that it named.
-use Prim.Native.Nat.{ℕ, zero, suc, _≤_}
+use Prim.Native.Nat.{ℕ, zero, suc, _+_, _≤_}
 use mathlib.Core.List.{List, [], _∷_, map}
 use mathlib.Core.Path.{_≡_, refl, ap, _∙_}
 use native.Mathlib.Nat.{not-suc-le-zero, le-of-suc-le-suc}
@@ -10,7 +10,7 @@ use lib.ListN.{length, getD, set}
 use borrow.Author.Tests.{ltb-true, ltb-false}
 use Rattle.sets.proofs.Cases.{both}
 use Rattle.roster.specs.declared.Roster.{Roster}
-use Rattle.table.specs.Table.{keyOf, recOf, usedPart, used, halfClosed}
+use Rattle.table.specs.Table.{keyOf, recOf, usedPart, used, findAmong, find, halfClosed}
 use Rattle.table.proofs.HalfClosed.{closedOnce, once-key, once-server, half-none, half-out, used-half}
 use Rattle.claims_histories.specs.Histories.{recorded, Distinct, AllWorking}
 
@@ -40,6 +40,27 @@ used-closed t (suc i) =
     (λ e.
     let out : used t ≤ i = ltb-false i (used t) e in
     rw (← (half-out t (suc i) (omega arith))) (closed-out i (usedPart t) out))
+
+-- it is as long as before, and a reader finds in it what it found
+closed-length : (place : ℕ) (rs : List (List ℕ)) → length (closedAt place rs) ≡ length rs
+closed-length zero rs = refl
+closed-length (suc i) [] = refl
+closed-length (suc zero) (r ∷ rs) = refl
+closed-length (suc (suc i)) (r ∷ rs) = ap suc (closed-length (suc i) rs)
+
+pub used-stays : (t : List ℕ) (place : ℕ) → used (halfClosed place t) ≡ used t
+used-stays t place = ap length (used-closed t place) ∙ closed-length place (usedPart t)
+
+among-closed : (key : List ℕ) (passed place : ℕ) (rs : List (List ℕ)) → findAmong key passed (closedAt place rs) ≡ findAmong key passed rs
+unfolding findAmong
+among-closed key passed zero rs = refl
+among-closed key passed (suc i) [] = refl
+among-closed key passed (suc zero) (r ∷ rs) = rw (once-key r)
+among-closed key passed (suc (suc i)) (r ∷ rs) = rw (among-closed key (passed + 1) (suc i) rs)
+
+pub find-closed : (key t : List ℕ) (place : ℕ) → find key (halfClosed place t) ≡ find key t
+unfolding find
+find-closed key t place = ap (findAmong key 0) (used-closed t place) ∙ among-closed key 0 place (usedPart t)
 
 -- keys stay, so none is recorded twice
 recorded-closed : (key : List ℕ) (place : ℕ) (rs : List (List ℕ))
