@@ -3,7 +3,7 @@ use Prim.Native.Nat.{ℕ, _-_, _%_, _^_, _<_, _≤_}
 use mathlib.Core.Bool.{true, false, not}
 use mathlib.Core.List.{List, []}
 use mathlib.Core.Logic.{_≢_, ⊎-elim}
-use mathlib.Core.Path.{_≡_, refl, _∙_}
+use mathlib.Core.Path.{_≡_, refl}
 use native.Mathlib.Omega.{arith}
 use lib.Dec.{eqb, ltb}
 use lib.ListN.{getD}
@@ -24,10 +24,9 @@ use Rattle.roster.specs.declared.Roster.{Roster}
 use Rattle.roster.specs.Roster.{sound, stateOf, workingSet, horizon}
 use Rattle.roster.proofs.Form.{sound-parts}
 use Rattle.roster.proofs.Sets.{working-state}
-use Rattle.table.specs.Table.{keyOf, usedPart, used, room, find, serverAt, tagAt}
-use Rattle.table.proofs.HalfClosed.{used-tags, tag-used}
-use Rattle.table.proofs.Records.{used-within, used-record}
-use Rattle.table.proofs.Finds.{found-from, found-within, found-first, missing-none, missing-reads}
+use Rattle.table.specs.Table.{keyOf, usedPart, used, room, find, serverAt}
+use Rattle.table.proofs.Records.{used-within}
+use Rattle.table.proofs.Finds.{found-from, found-first, missing-none, missing-reads}
 use Rattle.rows.specs.Rows.{rowRead}
 use Rattle.ring.specs.Ring.{entryRead}
 use Rattle.ringplan.specs.Plan.{some}
@@ -35,6 +34,7 @@ use Rattle.ringplan.proofs.Members.{some-member}
 use Rattle.rules.specs.Answer.{Answer, accepts}
 use Rattle.rules.specs.Rules.{World, Change, target, pickBy, packet, end}
 use Rattle.rules.proofs.Ends.{Ends, first, next, nothing, ends}
+use Rattle.claims_histories.proofs.HalfClosing.{tag-cases}
 use Rattle.claims_demands.specs.Causes.{kindIn, keyIn, HasKey, RecordAt, NoRecord, SomeOutranks, Given, byChoice, fromRing, fromRow, LedAstray, byRecord, byRow, byEntry}
 use Rattle.claims_demands.specs.Demand1.{safe, recorded, noRoom, known, chosen, first as first-end, next as next-end, nothing as no-record, MarkRight, packet as packet-event, end as end-event}
 use Rattle.claims_demands.proofs.Demand1Lent.{Tells, yes, no, tells-not, tells-eqb, told, denied}
@@ -205,15 +205,9 @@ module _ (bytes : List ℕ) (w : World) where
       rw (f, u, all)
       (marked _ _ _ (packet-event k _ _ _ (chosen n _ _ (g .Unsafe) (g .given) (safe (denied (rw u at (g .flagged)))))))))
 
-  -- the tag of a record that isn't 1 is 2
-  other-tag : find key table .found ≡ true → tagAt (find key table .reads) table ≢ 1 → tagAt (find key table .reads) table ≡ 2
-  other-tag f n =
-      let q = tag-used table (find key table .reads) (found-from key table f) (found-within key table f) in
-      ⊎-elim (λ one. absurd (n (q ∙ one))) (λ two. q ∙ two) (used-tags _ (used-record table _ (found-first key table f .within) .1))
-
   ended-marked : kindIn bytes ≡ 2 → {c : Change} → Ends (find key table) (w .state) c → Marked bytes w (c .answer)
   ended-marked k (first f tag) = marked _ _ _ (end-event k _ _ (first-end _ (found-at key table f) tag))
-  ended-marked k (next f tag) = marked _ _ _ (end-event k _ _ (next-end _ (found-at key table f) (other-tag f tag)))
+  ended-marked k (next f tag) = marked _ _ _ (end-event k _ _ (next-end _ (found-at key table f) (⊎-elim (λ one. absurd (tag one)) (λ two. two) (tag-cases key table f))))
   ended-marked k (nothing f) = rw (missing-reads key table f) (marked _ _ _ (end-event k _ _ (no-record (missing-at key table f))))
 
   pub end-marked : kindIn bytes ≡ 2 → Marked bytes w (end (find key table) (w .state) .answer)

@@ -8,7 +8,6 @@ use mathlib.Core.Path.{_≡_, refl, ap, _∙_}
 use native.Mathlib.Nat.{not-suc-le-zero, le-of-suc-le-suc}
 use native.Mathlib.Omega.{arith}
 use lib.ListN.{length}
-use borrow.Author.Tests.{eq-eqb, ne-eqb}
 use Rattle.sets.proofs.Cases.{clash}
 use Rattle.event.specs.Event.{allBytes, asksKey, eventIn}
 use Rattle.event.proofs.Reading.{end-reads}
@@ -16,12 +15,11 @@ use Rattle.table.specs.Table.{Finding, usedPart, used, findAmong, find, tagAt, 
 use Rattle.table.proofs.HalfClosed.{closedOnce, tag-used}
 use Rattle.table.proofs.Records.{used-removed}
 use Rattle.table.proofs.Finds.{found-from, found-first}
-use Rattle.rules.specs.Answer.{Answer, accepts}
-use Rattle.rules.specs.Rules.{end}
+use Rattle.rules.specs.Answer.{Answer}
 use Rattle.claims_histories.specs.Histories.{AllBytes}
 use Rattle.claims_histories.proofs.HalfClosing.{closedAt, used-closed, used-stays, find-closed}
 use Rattle.claims_demands.specs.Demands.{Engine, Demand2}
-use Rattle.claims_demands.proofs.Same.{end-seen}
+use Rattle.claims_demands.proofs.Same.{first-end, next-end}
 use Rattle.claims_demands.proofs.Witness.{keyP, packetP, endP, waiting, joined-bytes, written-part, written-find}
 
 without-fewer : (i : ℕ) (rs : List (List ℕ)) → i < length rs → length (without (suc i) rs) < length rs
@@ -42,26 +40,11 @@ module _ (n : ℕ) (E : Engine) (d : Demand2 n E) (h : List (List ℕ)) (bytes k
   abbrev place : ℕ
   place = find key (E .table h) .reads
 
-  -- the first end on a record, and the next
-  pub first-end : tagAt place (E .table h) ≡ 1 → (E .says h bytes ≡ accepts 0 8 place) × (E .table (bytes ∷ h) ≡ halfClosed place (E .table h))
-  unfolding end
-  first-end one =
-      let s = end-seen n E d h bytes b key e in
-      let q = eq-eqb (tagAt place (E .table h)) 1 one in
-      (s .answer ∙ rw (f, q), s .table ∙ rw (f, q))
-
-  pub next-end : tagAt place (E .table h) ≢ 1 → (E .says h bytes ≡ accepts 0 5 place) × (E .table (bytes ∷ h) ≡ removed place (E .table h))
-  unfolding end
-  next-end other =
-      let s = end-seen n E d h bytes b key e in
-      let q = ne-eqb (tagAt place (E .table h)) 1 other in
-      (s .answer ∙ rw (f, q), s .table ∙ rw (f, q))
-
   -- one that removes at the first end: it says so, or the key has no record afterwards, or fewer records are used
   pub not-ending-early : tagAt place (E .table h) ≡ 1
       → (E .says h bytes .mark ≡ 5) ⊎ ((find key (E .table (bytes ∷ h)) .found ≡ false) ⊎ (used (E .table (bytes ∷ h)) < used (E .table h))) → ⊥
   not-ending-early one =
-      let (a, t) = first-end one in
+      let (a, t) = first-end n E d h bytes b key e f one in
       ⊎-elim (λ m. omega (arith, m, ap (λ (x : Answer). x .mark) a))
       (⊎-elim
       (λ g. clash (ap (λ (x : Finding). x .found) (ap (find key) t ∙ find-closed key (E .table h) place) ∙ f) g)
@@ -70,7 +53,7 @@ module _ (n : ℕ) (E : Engine) (d : Demand2 n E) (h : List (List ℕ)) (bytes k
   -- one that only tags at the second: it says so, or as many records are used afterwards
   pub not-keeping : tagAt place (E .table h) ≢ 1 → (E .says h bytes .mark ≢ 5) ⊎ (used (E .table h) ≤ used (E .table (bytes ∷ h))) → ⊥
   not-keeping other =
-      let (a, t) = next-end other in
+      let (a, t) = next-end n E d h bytes b key e f other in
       ⊎-elim (λ m. m (ap (λ (x : Answer). x .mark) a))
       (λ l. omega (arith, l, ap used t, removed-fewer key (E .table h) f))
 
@@ -105,7 +88,7 @@ module _ (n : ℕ) (E : Engine) (d : Demand2 n E) (room : 20 ≤ n) where
   -- after one end of P its record is there, half-closed, and after two it isn't
   once-table : E .table (endP ∷ one) ≡ halfClosed 1 (E .table one)
   once-table =
-      first-end n E d one endP keyP end-bytes (end-reads keyP refl) one-found one-tag .1
+      first-end n E d one endP end-bytes keyP (end-reads keyP refl) one-found one-tag .1
       ∙ ap (λ (x : Finding). halfClosed (x .reads) (E .table one)) (written-find n E d room)
 
   once-find : find keyP (E .table (endP ∷ one)) ≡ record { found = true; reads = 1 }
@@ -123,7 +106,7 @@ module _ (n : ℕ) (E : Engine) (d : Demand2 n E) (room : 20 ≤ n) where
   unfolding without allBytes
   twice-part =
       let t = E .table (endP ∷ one) in
-      let (a, gone) = next-end n E d (endP ∷ one) endP keyP (refl, end-bytes) (end-reads keyP refl) (rw once-find) (λ q. omega (arith, q, once-tag)) in
+      let (a, gone) = next-end n E d (endP ∷ one) endP (refl, end-bytes) keyP (end-reads keyP refl) (rw once-find) (λ q. omega (arith, q, once-tag)) in
       ap usedPart gone
       ∙ used-removed t (find keyP t .reads)
       ∙ ap (λ (x : Finding). without (x .reads) (usedPart t)) once-find

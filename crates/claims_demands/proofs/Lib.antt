@@ -2,6 +2,7 @@ pub mod SteadyRecords
 pub mod SteadyEvents
 pub mod SteadyChanges
 pub mod SteadyKept
+pub mod TagCounts
 pub mod Steady
 pub mod Packets
 pub mod Others

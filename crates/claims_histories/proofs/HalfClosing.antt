@@ -1,7 +1,9 @@
 -- Records of which the one at a place is half-closed: the used part has it so, no key is recorded twice by it, and every record names the server
 -- that it named.
 use Prim.Native.Nat.{ℕ, zero, suc, _+_, _≤_}
+use mathlib.Core.Bool.{true}
 use mathlib.Core.List.{List, [], _∷_, map}
+use mathlib.Core.Logic.{_⊎_, inl, inr, ⊎-elim}
 use mathlib.Core.Path.{_≡_, refl, ap, _∙_}
 use native.Mathlib.Nat.{not-suc-le-zero, le-of-suc-le-suc}
 use native.Mathlib.Omega.{arith}
@@ -10,8 +12,10 @@ use lib.ListN.{length, getD, set}
 use borrow.Author.Tests.{ltb-true, ltb-false}
 use Rattle.sets.proofs.Cases.{both}
 use Rattle.roster.specs.declared.Roster.{Roster}
-use Rattle.table.specs.Table.{keyOf, recOf, usedPart, used, findAmong, find, halfClosed}
-use Rattle.table.proofs.HalfClosed.{closedOnce, once-key, once-server, half-none, half-out, used-half}
+use Rattle.table.specs.Table.{keyOf, recOf, usedPart, used, findAmong, find, tagAt, halfClosed}
+use Rattle.table.proofs.HalfClosed.{used-tags, closedOnce, once-key, once-server, half-none, half-out, used-half, tag-used}
+use Rattle.table.proofs.Records.{used-record}
+use Rattle.table.proofs.Finds.{found-from, found-within, found-first}
 use Rattle.claims_histories.specs.Histories.{recorded, Distinct, AllWorking}
 
 -- the list whose record at a place, counted from 1, is half-closed
@@ -61,6 +65,12 @@ among-closed key passed (suc (suc i)) (r ∷ rs) = rw (among-closed key (passed 
 pub find-closed : (key t : List ℕ) (place : ℕ) → find key (halfClosed place t) ≡ find key t
 unfolding find
 find-closed key t place = ap (findAmong key 0) (used-closed t place) ∙ among-closed key 0 place (usedPart t)
+
+-- a key's record has tag 1 or 2
+pub tag-cases : (key t : List ℕ) → find key t .found ≡ true → (tagAt (find key t .reads) t ≡ 1) ⊎ (tagAt (find key t .reads) t ≡ 2)
+tag-cases key t f =
+    let q = tag-used t (find key t .reads) (found-from key t f) (found-within key t f) in
+    ⊎-elim (λ one. inl (q ∙ one)) (λ two. inr (q ∙ two)) (used-tags _ (used-record t _ (found-first key t f .within) .1))
 
 -- keys stay, so none is recorded twice
 recorded-closed : (key : List ℕ) (place : ℕ) (rs : List (List ℕ))
