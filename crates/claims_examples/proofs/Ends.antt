@@ -47,7 +47,7 @@ once-steady = covered 2 2 twoAndStandby once refl (refl, (refl, (refl, (refl, (r
 
 -- ---- an end before the first packet leaves no trace
 
--- the key is ended without a record, then come its packet, another end and 4 from the horizon
+-- the key is ended without a record; then come its packet, another end and its next packet. That end is the first since the record was written.
 abbrev beforehand : List (List ℕ)
 beforehand = endOf 1 ∷ twoAndStandby
 
@@ -56,28 +56,25 @@ pub beforehand-told : (ours (lent 2) .says twoAndStandby (endOf 1) ≡ accepts 0
     × (ours (lent 2) .says beforehand (packetOf 1) ≡ accepts 2 3 0)
     × (ours (lent 2) .says (packetOf 1 ∷ beforehand) (endOf 1) ≡ accepts 0 8 1)
     × (endsSince (ours (lent 2)) (keyed 1) (endOf 1 ∷ packetOf 1 ∷ beforehand) ≡ 1)
-    × (ours (lent 2) .says (once ++ (packetOf 1 ∷ beforehand)) (packetOf 1) ≡ accepts 2 1 1)
+    × (ours (lent 2) .says (endOf 1 ∷ packetOf 1 ∷ beforehand) (packetOf 1) ≡ accepts 2 1 1)
 unfolding computed
 beforehand-told = (refl, refl, refl, refl, refl, refl)
 
-pub beforehand-provisos : Provisos (ours (lent 2)) beforehand (packetOf 1) (keyed 1) 2 once
+pub beforehand-provisos : Provisos (ours (lent 2)) beforehand (packetOf 1) (keyed 1) 2 (endOf 1 ∷ [])
 unfolding computed
 beforehand-provisos =
     record {
-      worked = (refl, (refl, tt));
-      ends = (
-        (λ q n. clash q refl, λ q. clash q refl),
-        ((λ q n. omega arith, λ q n. let z : _≡_ {A = ℕ} 8 6 = n in omega arith), tt),
-      );
-      held = (λ x m n. m, (λ x m n. clash m n, tt));
+      worked = (refl, tt);
+      ends = ((λ q n. omega arith, λ q n. let z : _≡_ {A = ℕ} 8 6 = n in omega arith), tt);
+      held = (λ x m n. clash m n, tt);
       roomTold = λ q. let z : _≡_ {A = ℕ} 3 4 = q in omega arith;
     }
 
-pub beforehand-steady : (ours (lent 2) .says (once ++ (packetOf 1 ∷ beforehand)) (packetOf 1) .accepted ≡ true)
-    × (ours (lent 2) .says (once ++ (packetOf 1 ∷ beforehand)) (packetOf 1) .server ≡ 2)
+pub beforehand-steady : (ours (lent 2) .says (endOf 1 ∷ packetOf 1 ∷ beforehand) (packetOf 1) .accepted ≡ true)
+    × (ours (lent 2) .says (endOf 1 ∷ packetOf 1 ∷ beforehand) (packetOf 1) .server ≡ 2)
 unfolding computed
 beforehand-steady =
-    covered 2 2 beforehand once refl (refl, (refl, (refl, (refl, (refl, (refl, (refl, (refl, (refl, tt))))))))) refl refl beforehand-provisos
+    covered 2 2 beforehand (endOf 1 ∷ []) refl (refl, (refl, (refl, (refl, (refl, (refl, (refl, (refl, tt)))))))) refl refl beforehand-provisos
 
 -- ---- ends count from the writing of the record on, also those before the earlier packet
 
