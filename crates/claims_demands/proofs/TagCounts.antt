@@ -198,6 +198,7 @@ module _ (w : World) (s : startAccepted w ≡ true) where
         (ap (λ (x : Answer). x .accepted) a, inr (ap (λ (x : Answer). x .mark) a, omega (arith, c, q, ends-more 5 _ a))))
         (tag-cases key (after w h .state .table) f)
 
+    -- so mark 8 tells the first, and mark 5 the second
     pub mark-first : find key (after w h .state .table) .found ≡ true → (answer w h bytes .mark ≡ 8) ↔ (ends ≡ 1)
     mark-first f =
         ⊎-elim (λ (m, n). (λ q. n, λ q. m)) (λ (m, n). (λ q. absurd (omega (arith, m, q)), λ q. absurd (omega (arith, n, q)))) (told f .1)
