@@ -7,9 +7,9 @@ use Rattle.ring.specs.declared.Entry.{Entry}
 use Rattle.rules.specs.declared.Reply.{Reply}
 use Rattle.rules.specs.declared.Reply.the-variants.{Accepted, Refused}
 use Rattle.rules.specs.Rules.{World}
-use Rattle.table.specs.Table.{serverAt}
-use Rattle.claims_demands.specs.Causes.{Given, byChoice, fromRing, fromRow}
-use Rattle.claims_demands.specs.Demand1.{ChosenMark, safe, recorded, noRoom, PacketMark, known, chosen, EndMark, gone, nothing, MarkRight, packet, end, other, Demand1}
+use Rattle.table.specs.Table.{serverAt, tagAt}
+use Rattle.claims_demands.specs.Causes.{RecordAt, Given, byChoice, fromRing, fromRow}
+use Rattle.claims_demands.specs.Demand1.{ChosenMark, safe, recorded, noRoom, PacketMark, known, chosen, EndMark, first, next, nothing, MarkRight, packet, end, other, Demand1}
 use Rattle.claims_demands.proofs.Demand1Packet.{record-one}
 
 -- what the method gives is one server, and one condition
@@ -52,10 +52,19 @@ packet-one (chosen n s m U g c) (known p r) = absurd (n _ (r .here))
 packet-one (chosen n s m U g c) (chosen n′ s′ m′ U′ g′ c′) =
     record { server = given-one g g′ .0; marks = chosen-one (given-one g g′ .1) (given-one g′ g .1) c c′; read = refl }
 
+-- a place has one tag
+tags-apart : {key t : List ℕ} {p p′ : ℕ} → RecordAt key t p → RecordAt key t p′ → tagAt p t ≡ 1 → tagAt p′ t ≡ 2 → ⊥
+tags-apart {key} {t} {p} {p′} r r′ one two = omega (arith, one, two, ap (λ (i : ℕ). tagAt i t) (record-one key t p p′ r r′))
+
 end-one : {key t : List ℕ} {m n m′ n′ : ℕ} → EndMark key t m n → EndMark key t m′ n′ → Same 0 m n 0 m′ n′
-end-one {key} {t} (gone p r) (gone p′ r′) = record { server = refl; marks = refl; read = record-one key t p p′ r r′ }
-end-one (gone p r) (nothing n) = absurd (n _ (r .here))
-end-one (nothing n) (gone p r) = absurd (n _ (r .here))
+end-one {key} {t} (first p r q) (first p′ r′ q′) = record { server = refl; marks = refl; read = record-one key t p p′ r r′ }
+end-one (first p r q) (next p′ r′ q′) = absurd (tags-apart r r′ q q′)
+end-one (first p r q) (nothing n) = absurd (n _ (r .here))
+end-one (next p r q) (first p′ r′ q′) = absurd (tags-apart r′ r q′ q)
+end-one {key} {t} (next p r q) (next p′ r′ q′) = record { server = refl; marks = refl; read = record-one key t p p′ r r′ }
+end-one (next p r q) (nothing n) = absurd (n _ (r .here))
+end-one (nothing n) (first p r q) = absurd (n _ (r .here))
+end-one (nothing n) (next p r q) = absurd (n _ (r .here))
 end-one (nothing n) (nothing n′) = record { server = refl; marks = refl; read = refl }
 
 mark-one : {kind : ℕ} {key : List ℕ} {w : World} {s m n s′ m′ n′ : ℕ} → MarkRight kind key w s m n → MarkRight kind key w s′ m′ n′

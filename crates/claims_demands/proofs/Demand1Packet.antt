@@ -2,7 +2,7 @@
 use Prim.Native.Nat.{ℕ, _-_, _%_, _^_, _<_, _≤_}
 use mathlib.Core.Bool.{true, false, not}
 use mathlib.Core.List.{List, []}
-use mathlib.Core.Logic.{_≢_}
+use mathlib.Core.Logic.{_≢_, ⊎-elim}
 use mathlib.Core.Path.{_≡_, refl}
 use native.Mathlib.Omega.{arith}
 use lib.Dec.{eqb, ltb}
@@ -32,9 +32,11 @@ use Rattle.ring.specs.Ring.{entryRead}
 use Rattle.ringplan.specs.Plan.{some}
 use Rattle.ringplan.proofs.Members.{some-member}
 use Rattle.rules.specs.Answer.{Answer, accepts}
-use Rattle.rules.specs.Rules.{World, target, pickBy, packet, end}
+use Rattle.rules.specs.Rules.{World, Change, target, pickBy, packet, end}
+use Rattle.rules.proofs.Ends.{Ends, first, next, nothing, ends}
+use Rattle.claims_histories.proofs.HalfClosing.{tag-cases}
 use Rattle.claims_demands.specs.Causes.{kindIn, keyIn, HasKey, RecordAt, NoRecord, SomeOutranks, Given, byChoice, fromRing, fromRow, LedAstray, byRecord, byRow, byEntry}
-use Rattle.claims_demands.specs.Demand1.{safe, recorded, noRoom, known, chosen, gone, nothing, MarkRight, packet as packet-event, end as end-event}
+use Rattle.claims_demands.specs.Demand1.{safe, recorded, noRoom, known, chosen, first as first-end, next as next-end, nothing as no-record, MarkRight, packet as packet-event, end as end-event}
 use Rattle.claims_demands.proofs.Demand1Lent.{Tells, yes, no, tells-not, tells-eqb, told, denied}
 
 -- ---- the key's record
@@ -203,9 +205,10 @@ module _ (bytes : List ℕ) (w : World) where
       rw (f, u, all)
       (marked _ _ _ (packet-event k _ _ _ (chosen n _ _ (g .Unsafe) (g .given) (safe (denied (rw u at (g .flagged)))))))))
 
+  ended-marked : kindIn bytes ≡ 2 → {c : Change} → Ends (find key table) (w .state) c → Marked bytes w (c .answer)
+  ended-marked k (first f tag) = marked _ _ _ (end-event k _ _ (first-end _ (found-at key table f) tag))
+  ended-marked k (next f tag) = marked _ _ _ (end-event k _ _ (next-end _ (found-at key table f) (⊎-elim (λ one. absurd (tag one)) (λ two. two) (tag-cases key table f))))
+  ended-marked k (nothing f) = rw (missing-reads key table f) (marked _ _ _ (end-event k _ _ (no-record (missing-at key table f))))
+
   pub end-marked : kindIn bytes ≡ 2 → Marked bytes w (end (find key table) (w .state) .answer)
-  unfolding end
-  end-marked k =
-      both (find key table .found)
-      (λ f. rw f (marked _ _ _ (end-event k _ _ (gone _ (found-at key table f)))))
-      (λ f. rw (f, missing-reads key table f) (marked _ _ _ (end-event k _ _ (nothing (missing-at key table f)))))
+  end-marked k = ended-marked k (ends (find key table) (w .state))

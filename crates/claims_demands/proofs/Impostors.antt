@@ -8,7 +8,7 @@ use mathlib.Core.Path.{_≡_, refl, ap, _∙_}
 use native.Mathlib.Omega.{arith}
 use lib.ListN.{length, length-append}
 use Rattle.sets.specs.Sets.{inState}
-use Rattle.sets.proofs.Cases.{both, clash}
+use Rattle.sets.proofs.Cases.{clash}
 use Rattle.spans.specs.Spans.{allZero}
 use Rattle.roster.specs.declared.Roster.{Roster}
 use Rattle.roster.specs.Roster.{workingSet, emptyRoster, stateIn, addedHorizon}
@@ -17,10 +17,11 @@ use Rattle.event.proofs.Reading.{packet-reads, end-reads}
 use Rattle.table.specs.Table.{Finding, find, used}
 use Rattle.ringplan.specs.Plan.{some}
 use Rattle.rules.specs.Answer.{Answer, accepts}
-use Rattle.rules.specs.Rules.{barred, end, effect, judged}
+use Rattle.rules.specs.Rules.{State, Change, barred, effect, judged}
+use Rattle.rules.proofs.Ends.{Ends, first, next, nothing, ends}
 use Rattle.claims_histories.specs.Histories.{AllBytes}
 use Rattle.claims_demands.specs.Demands.{Engine, otherwise, Demand2}
-use Rattle.claims_demands.proofs.Same.{unserved-seen}
+use Rattle.claims_demands.proofs.Same.{unserved-seen, end-seen}
 use Rattle.claims_demands.proofs.Witness.{stand, keyP, packetP, endP, waiting, joined, clear-find, joined-bytes, waiting-seen, joined-seen, joined-packet, waiting-packet, waiting-written, written-find}
 
 -- the first of a working set; it is in rising order, so this is the lowest
@@ -36,6 +37,12 @@ first-told t = refl
 first-held : (t : List ℕ) → otherwise (eventIn (stand 1)) t emptyRoster .state .roster .held ≡ 1
 unfolding judged barred effect addedHorizon stateIn eventIn byKind asksServer allZero
 first-held t = refl
+
+-- an end tells what was read, whatever it comes to
+end-reads-found : {found : Finding} {st : State} {c : Change} → Ends found st c → c .answer .reads ≡ found .reads
+end-reads-found (first f t) = refl
+end-reads-found (next f t) = refl
+end-reads-found (nothing f) = refl
 
 module _ (n : ℕ) (E : Engine) (d : Demand2 n E) where
   -- one that refuses everything
@@ -86,10 +93,8 @@ module _ (n : ℕ) (E : Engine) (d : Demand2 n E) where
 
   pub end-counts : (h : List (List ℕ)) (bytes key : List ℕ) → AllBytes (bytes ∷ h) → eventIn bytes ≡ asksKey 2 key
       → E .says h bytes .reads ≡ find key (E .table h) .reads
-  unfolding judged barred effect end
   end-counts h bytes key b e =
-      ap (λ (a : Answer). a .reads) (unserved-seen n E d h bytes b (rw e) .answer)
-      ∙ rw e (both (find key (E .table h) .found) (λ f. rw f) (λ f. rw f))
+      ap (λ (a : Answer). a .reads) (end-seen n E d h bytes b key e .answer) ∙ end-reads-found (ends (find key (E .table h)) _)
 
   pub not-inventing-ends : (h : List (List ℕ)) (bytes key : List ℕ) → AllBytes (bytes ∷ h) → eventIn bytes ≡ asksKey 2 key
       → E .says h bytes .reads ≢ find key (E .table h) .reads → ⊥

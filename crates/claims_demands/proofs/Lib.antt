@@ -2,6 +2,7 @@ pub mod SteadyRecords
 pub mod SteadyEvents
 pub mod SteadyChanges
 pub mod SteadyKept
+pub mod TagCounts
 pub mod Steady
 pub mod Packets
 pub mod Others
@@ -9,6 +10,7 @@ pub mod Obeys
 pub mod Same
 pub mod Witness
 pub mod Impostors
+pub mod Endings
 pub mod Pretenders
 pub mod Roomless
 pub mod EveryEngine

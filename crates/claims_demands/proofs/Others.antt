@@ -12,7 +12,7 @@ use Rattle.roster.specs.declared.Roster.{Roster}
 use Rattle.roster.specs.Roster.{workingSet}
 use Rattle.event.specs.Event.{Request, asksKey, eventIn}
 use Rattle.event.proofs.Reading.{Outcome, refused, keyed, naming, configured, outcome}
-use Rattle.table.specs.Table.{Finding}
+use Rattle.table.specs.Table.{Finding, tagAt}
 use Rattle.ringplan.specs.Plan.{some}
 use Rattle.rules.specs.Answer.{Answer}
 use Rattle.rules.specs.Rules.{State, Change, is, barred, end, effect, judged}
@@ -56,7 +56,11 @@ module _ (e : Request) (found : Finding) (p q : Pick) (st : State) (rows flags :
 
   end-same : Alike (end found st) (end found instead)
   unfolding end
-  end-same = both (found .found) (λ f. rw f (seen-itself _)) (λ f. rw f (seen-itself _))
+  end-same =
+      both (found .found)
+      (λ f.
+      both (eqb (tagAt (found .reads) (st .table)) 1) (λ t. rw (f, t) (seen-itself _)) (λ t. rw (f, t) (seen-itself _)))
+      (λ f. rw f (seen-itself _))
 
   effect-same : is 1 e ≡ false → Alike (effect e found p st) (effect e found q instead)
   unfolding effect

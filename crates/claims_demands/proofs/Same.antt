@@ -2,24 +2,24 @@
 use Prim.Native.Nat.{ℕ}
 use mathlib.Core.Bool.{Bool, true, false, _&&_}
 use mathlib.Core.List.{List, [], _∷_}
-use mathlib.Core.Logic.{⊎-elim}
+use mathlib.Core.Logic.{_≢_, ⊎-elim}
 use mathlib.Core.Path.{_≡_, refl, sym, ap, _∙_}
 use native.Mathlib.Omega.{arith}
 use lib.Dec.{ltb}
-use borrow.Author.Tests.{ltb-true, ltb-false}
+use borrow.Author.Tests.{eq-eqb, ne-eqb, ltb-true, ltb-false}
 use Rattle.sets.specs.Sets.{member}
 use Rattle.sets.proofs.Cases.{both, clash}
 use Rattle.ranking.specs.Ranking.{choice, unsafe, picked}
 use Rattle.roster.specs.declared.Roster.{Roster}
 use Rattle.roster.specs.Roster.{workingSet, horizon}
 use Rattle.event.specs.Event.{allBytes, asksKey, eventIn}
-use Rattle.table.specs.Table.{find, used, room}
+use Rattle.table.specs.Table.{find, tagAt, used, room, removed, halfClosed}
 use Rattle.table.proofs.Records.{used-within}
 use Rattle.table.proofs.Finds.{missing-reads}
 use Rattle.ringplan.specs.Plan.{some}
 use Rattle.ringplan.proofs.Members.{some-member}
 use Rattle.rules.specs.Answer.{Answer, accepts}
-use Rattle.rules.specs.Rules.{Change, is, packet, barred, judged}
+use Rattle.rules.specs.Rules.{Change, stateWith, is, packet, end, barred, effect, judged}
 use Rattle.claims_histories.specs.Histories.{AllBytes}
 use Rattle.claims_demands.specs.Demands.{Engine, rankingOf, mover, Unsafe, PacketRight, otherwise, Demand2}
 use Rattle.claims_demands.proofs.Packets.{flagged, unflagged}
@@ -90,6 +90,38 @@ module _ (n : ℕ) (E : Engine) (d : Demand2 n E) (h : List (List ℕ)) (bytes :
   unserved-seen v =
       let o = d .others h bytes b (λ key e works. clash (rw (e, works)) v) in
       record { answer = o .0; table = o .1; roster = o .2 }
+
+  -- an end of a key
+  pub end-seen : (key : List ℕ) → eventIn bytes ≡ asksKey 2 key
+      → Shows (end (find key (E .table h)) (stateWith (E .table h) [] [] (E .roster h))) (E .says h bytes) (E .table (bytes ∷ h)) (E .roster (bytes ∷ h))
+  unfolding judged barred effect
+  end-seen key e = rw e at (unserved-seen (rw e))
+
+  -- without a record, with one that wasn't ended yet, and with one that was
+  module _ (key : List ℕ) (e : eventIn bytes ≡ asksKey 2 key) where
+    abbrev place : ℕ
+    place = find key (E .table h) .reads
+
+    pub no-end : find key (E .table h) .found ≡ false → (E .says h bytes ≡ accepts 0 6 place) × (E .table (bytes ∷ h) ≡ E .table h)
+    unfolding end
+    no-end f = let s = end-seen key e in (s .answer ∙ rw f, s .table ∙ rw f)
+
+    module _ (f : find key (E .table h) .found ≡ true) where
+      pub first-end : tagAt place (E .table h) ≡ 1
+          → (E .says h bytes ≡ accepts 0 8 place) × (E .table (bytes ∷ h) ≡ halfClosed place (E .table h))
+      unfolding end
+      first-end one =
+          let s = end-seen key e in
+          let q = eq-eqb (tagAt place (E .table h)) 1 one in
+          (s .answer ∙ rw (f, q), s .table ∙ rw (f, q))
+
+      pub next-end : tagAt place (E .table h) ≢ 1
+          → (E .says h bytes ≡ accepts 0 5 place) × (E .table (bytes ∷ h) ≡ removed place (E .table h))
+      unfolding end
+      next-end other =
+          let s = end-seen key e in
+          let q = ne-eqb (tagAt place (E .table h)) 1 other in
+          (s .answer ∙ rw (f, q), s .table ∙ rw (f, q))
 
 -- a packet that an engine which obeys accepts found some server at work
 pub accepted-works : (n : ℕ) (E : Engine) → Demand2 n E → (h : List (List ℕ)) (bytes key : List ℕ) → AllBytes (bytes ∷ h)

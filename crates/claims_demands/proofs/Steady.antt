@@ -1,12 +1,14 @@
--- Demand 3 of our engine: two successive packets of one key get the same mover under the four provisos, no key is recorded twice, and every
--- record names a working mover.
+-- Demand 3 of our engine: two successive packets of one key get the same mover under the four provisos (of the one about ends the first half is
+-- enough), no key is recorded twice, and every record names a working mover.
 use Prim.Native.Nat.{ℕ}
 use mathlib.Core.Bool.{true, false}
 use mathlib.Core.List.{List, [], _∷_, _++_}
 use mathlib.Core.Logic.{_≢_}
 use mathlib.Core.Path.{_≡_, refl, ap, subst, _∙_}
 use lib.ListN.{length}
+use native.Mathlib.Omega.{arith}
 use Rattle.sets.specs.Sets.{member}
+use Rattle.spans.proofs.Scans.{same-equal}
 use Rattle.settings.specs.declared.Settings.{Settings}
 use Rattle.roster.specs.Roster.{stateOf, working, heldServers, workingSet}
 use Rattle.event.specs.Event.{Request, asksKey, eventIn}
@@ -16,31 +18,39 @@ use Rattle.rules.specs.Rules.{World, settled, eventOf}
 use Rattle.claims_histories.specs.Histories.{startAccepted, after, answer, AllBytes, Distinct, AllWorking}
 use Rattle.claims_histories.proofs.Along.{event-judged, inner, along}
 use Rattle.claims_histories.proofs.Meaning.{distinct-apart, works-each}
-use Rattle.claims_demands.specs.Demands.{ours, mover, Throughout, Demand3}
-use Rattle.claims_demands.proofs.Alike.{bytes-behind}
+use Rattle.claims_demands.specs.Demands.{ours, mover, Throughout, FewerThanTwo, Provided, Steady, Demand3}
+use Rattle.claims_demands.proofs.Alike.{throughout-follows, bytes-behind}
 use Rattle.claims_demands.proofs.Obeys.{ours-obeys}
 use Rattle.claims_demands.proofs.Same.{accepted-works}
+use Rattle.claims_demands.proofs.TagCounts.{unremoved}
 use Rattle.claims_demands.proofs.SteadyEvents.{changeOf, served-accepted, goes}
 use Rattle.claims_demands.proofs.SteadyKept.{Kept, Fair, kept-first, kept-after, kept-last}
 
 -- the provisos at the event that a record is, after a history
 abbrev pub FairAt : World → (ℕ → Type 0) → List ℕ → ℕ → List (List ℕ) → List ℕ → Type 0
-FairAt w P key m h bytes = Fair P key m (after w h .state .roster) (eventIn bytes) (after w (bytes ∷ h) .state .roster)
+FairAt w P key m h bytes =
+    Fair P key m (after w h .state .roster) (eventIn bytes) (answer w h bytes) (after w (bytes ∷ h) .state .roster)
 
 -- the three provisos about the time between, as one at each event
-fair-throughout : (w : World) (key : List ℕ) (m : ℕ) (P : ℕ → Type 0) (h between : List (List ℕ))
+fair-throughout : (w : World) → startAccepted w ≡ true → (key : List ℕ) (m : ℕ) (P : ℕ → Type 0) (h between : List (List ℕ)) → AllBytes (between ++ h)
     → Throughout (λ g bytes. stateOf m (after w (bytes ∷ g) .state .roster) ≡ working) between h
-    → Throughout (λ g bytes. eventIn bytes ≢ asksKey 2 key) between h
+    → Throughout (FewerThanTwo (ours w) key) between h
     → Throughout
     (λ g bytes. (x : ℕ) → member x (workingSet (after w (bytes ∷ g) .state .roster)) ≡ true
     → member x (workingSet (after w g .state .roster)) ≡ false → P x)
     between
     h
     → Throughout (FairAt w P key m) between h
-fair-throughout w key m P h [] a b c = tt
-fair-throughout w key m P h (bytes ∷ between) a b c = (
-  record { works = a .0; unended = b .0; brought = c .0 },
-  fair-throughout w key m P h between (a .1) (b .1) (c .1),
+fair-throughout w s key m P h [] b worked ends held = tt
+fair-throughout w s key m P h (bytes ∷ between) b worked ends held = (
+  record {
+    works = worked .0;
+    unremoved = λ k q.
+        let asked = reading bytes .key-asked (omega arith) (omega arith) in
+        unremoved w s (between ++ h) bytes key b (asked ∙ rw k (ap (asksKey 2) (same-equal (eventIn bytes .key) key q))) (ends .0);
+    brought = held .0;
+  },
+  fair-throughout w s key m P h between (b .1) (worked .1) (ends .1) (held .1),
 )
 
 module _ (w : World) (s : startAccepted w ≡ true) where
@@ -66,7 +76,7 @@ module _ (w : World) (s : startAccepted w ≡ true) where
         let v = after w g in
         let q = event-at g (b .1) bytes in
         let k′ = kept-between d h between (b .1) (f .1) k in
-        rw (q, after) (kept-after v (inner w s g (b .1)) key (reading bytes .key-sized) (goes v bytes) d P m (rw (q, FairAt, after) at (f .0)) k′)
+        rw (q, after) (kept-after v (inner w s g (b .1)) key (reading bytes .key-sized) (goes v bytes) d P m (rw (q, FairAt, after, answer) at (f .0)) k′)
 
     -- demand 3 for any servers P that were all held at the earlier packet
     pub steady-within : (h between : List (List ℕ)) (earlier later : List ℕ) → AllBytes (later ∷ (between ++ (earlier ∷ h)))
@@ -99,6 +109,21 @@ accepted-mover w s h bytes key b e a =
     let works = accepted-works (length (w .state .table)) (ours w) d h bytes key b e a in
     ap (λ (x : Answer). x .server) (d .packets h bytes key b e works .gets)
 
+-- the sentence about two successive packets, with only the first half of the proviso about ends: "fewer than two since the key's record was
+-- written". An end of a key without a record changes nothing, so that there be none needn't be asked.
+pub ends-enough : (w : World) → startAccepted w ≡ true → Steady (λ h earlier key m between. Provided (FewerThanTwo (ours w) key) (ours w) h earlier key m between) (ours w)
+ends-enough w s h between earlier later key b p₁ p₂ a v =
+    let m = answer w h earlier .server in
+    let P : ℕ → Type 0 = λ x. member x (heldServers (after w h .state .roster)) ≡ true in
+    let (x, y) = steady-within w s key m P h between earlier later b p₁ p₂ a refl (v .roomTold) (λ x q. q)
+    (fair-throughout w s key m P (earlier ∷ h) between (b .1) (v .worked) (v .ends) (v .held)) in
+    record {
+      accepted = x;
+      same = y;
+      first = accepted-mover w s h earlier key (bytes-behind between (earlier ∷ h) (b .1)) p₁ a;
+      last = accepted-mover w s (between ++ (earlier ∷ h)) later key b p₂ x;
+    }
+
 -- DEMAND 3 of our engine
 pub ours-steady : (w : World) → startAccepted w ≡ true → Demand3 (ours w)
 ours-steady w s =
@@ -107,14 +132,11 @@ ours-steady w s =
       named = λ h b front back r e.
           works-each (after w h .state .roster) front back r (subst (AllWorking (after w h .state .roster)) e (along w s h b .named));
       steady = λ h between earlier later key b p₁ p₂ a v.
-          let m = answer w h earlier .server in
-          let P : ℕ → Type 0 = λ x. member x (heldServers (after w h .state .roster)) ≡ true in
-          let (x, y) = steady-within w s key m P h between earlier later b p₁ p₂ a refl (v .roomTold) (λ x q. q)
-          (fair-throughout w key m P (earlier ∷ h) between (v .worked) (v .unended) (v .held)) in
-          record {
-            accepted = x;
-            same = y;
-            first = accepted-mover w s h earlier key (bytes-behind between (earlier ∷ h) (b .1)) p₁ a;
-            last = accepted-mover w s (between ++ (earlier ∷ h)) later key b p₂ x;
-          };
+          ends-enough w s h between earlier later key b p₁ p₂ a
+          (record {
+            worked = v .worked;
+            ends = throughout-follows _ _ between (earlier ∷ h) (b .1) (λ g bytes c q. q .0) (v .ends);
+            held = v .held;
+            roomTold = v .roomTold;
+          });
     }

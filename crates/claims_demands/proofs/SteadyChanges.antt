@@ -18,12 +18,14 @@ use Rattle.roster.proofs.Sets.{working-state}
 use Rattle.roster.proofs.Bounds.{working-below}
 use Rattle.roster.proofs.Changes.{removedWorking-state, addedHorizon-settings}
 use Rattle.roster.proofs.Removed.{removedHorizon-settings}
-use Rattle.event.specs.Event.{Request, asksKey}
+use Rattle.event.specs.Event.{Request}
+use Rattle.table.specs.Table.{serverOf}
 use Rattle.rules.specs.Rules.{World, Change}
+use Rattle.rules.proofs.Ends.{first, next, nothing}
 use Rattle.claims_histories.proofs.Inner.{Inner}
 use Rattle.claims_histories.proofs.Picking.{pickAt}
-use Rattle.claims_demands.proofs.SteadyRecords.{recordOf, record-missing, record-appended, record-new, record-removed, record-others, record-still}
-use Rattle.claims_demands.proofs.SteadyEvents.{Served, known, safe, written, full, Goes, turned, served, ended, unknown, entered, left, stood, went, set}
+use Rattle.claims_demands.proofs.SteadyRecords.{serverFor, read-missing, read-appended, server-new, read-removed, server-halved, read-kept, read-without-server}
+use Rattle.claims_demands.proofs.SteadyEvents.{Served, known, safe, written, full, Goes, turned, served, ended, entered, left, stood, went, set}
 
 module _ (w : World) (i : Inner w) where
   pub works-member : (m : ℕ) → stateOf m (w .state .roster) ≡ working → member m (workingSet (w .state .roster)) ≡ true
@@ -47,60 +49,64 @@ module _ (w : World) (i : Inner w) where
     pub keeps-settings : {c : Change} → Goes w e c → (m : ℕ) → stateOf m (w .state .roster) ≡ working
         → c .state .roster .settings ≡ w .state .roster .settings
     keeps-settings (turned n) m q = refl
-    keeps-settings (served s) m q = ap (λ (r : Roster). r .settings) (served-roster s)
-    keeps-settings (ended a f) m q = refl
-    keeps-settings unknown m q = refl
-    keeps-settings entered m q = refl
-    keeps-settings (left s) m q = refl
-    keeps-settings (stood h) m q = addedHorizon-settings (e .server) (w .state .roster) h
-    keeps-settings (went s) m q = removedHorizon-settings (e .server) (w .state .roster) (i .places) (i .along .rosterSound) s
-    keeps-settings (set z) m q = absurd (omega (arith, q, none-works m z))
+    keeps-settings (served k s) m q = ap (λ (r : Roster). r .settings) (served-roster s)
+    keeps-settings (ended k (first f t)) m q = refl
+    keeps-settings (ended k (next f t)) m q = refl
+    keeps-settings (ended k (nothing f)) m q = refl
+    keeps-settings (entered k) m q = refl
+    keeps-settings (left k s) m q = refl
+    keeps-settings (stood k h) m q = addedHorizon-settings (e .server) (w .state .roster) h
+    keeps-settings (went k s) m q = removedHorizon-settings (e .server) (w .state .roster) (i .places) (i .along .rosterSound) s
+    keeps-settings (set k z) m q = absurd (omega (arith, q, none-works m z))
 
-    -- the key's record stays while its key is not ended and its server works
-    pub keeps-record : {c : Change} → Goes w e c → (key : List ℕ) (m : ℕ) → e ≢ asksKey 2 key → stateOf m (c .state .roster) ≡ working
-        → recordOf key (w .state .table) ≡ some m → recordOf key (c .state .table) ≡ some m
+    -- the key's record names its server on while no end removes it and its server works
+    pub keeps-record : {c : Change} → Goes w e c → (key : List ℕ) (m : ℕ) → (e .kind ≡ 2 → same (e .key) key ≡ true → c .answer .mark ≢ 5)
+        → stateOf m (c .state .roster) ≡ working
+        → serverFor key (w .state .table) ≡ some m → serverFor key (c .state .table) ≡ some m
     keeps-record (turned n) key m n₂ q f = f
-    keeps-record (served (known g s)) key m n₂ q f = f
-    keeps-record (served (safe g s u)) key m n₂ q f = f
-    keeps-record (served (written g s l)) key m n₂ q f =
-        record-appended key (w .state .table) (i .along .clean) l (e .key) (pickAt w (e .key) .server) sized m f
-    keeps-record (served full) key m n₂ q f = f
-    keeps-record (ended a g) key m n₂ q f =
-        record-removed key (w .state .table) (e .key) g (not-so (λ t. n₂ (a ∙ ap (asksKey 2) (same-equal (e .key) key t)))) ∙ f
-    keeps-record unknown key m n₂ q f = f
-    keeps-record entered key m n₂ q f = f
-    keeps-record (left s) key m n₂ q f =
+    keeps-record (served k (known g s)) key m n₂ q f = f
+    keeps-record (served k (safe g s u)) key m n₂ q f = f
+    keeps-record (served k (written g s l)) key m n₂ q f =
+        read-appended serverOf key (w .state .table) (i .along .clean) l (e .key) (pickAt w (e .key) .server) sized m f
+    keeps-record (served k full) key m n₂ q f = f
+    keeps-record (ended k (first g t)) key m n₂ q f = server-halved key (w .state .table) (e .key) g ∙ f
+    keeps-record (ended k (next g t)) key m n₂ q f =
+        read-removed serverOf key (w .state .table) (e .key) g (not-so (λ t. n₂ k t refl)) ∙ f
+    keeps-record (ended k (nothing g)) key m n₂ q f = f
+    keeps-record (entered k) key m n₂ q f = f
+    keeps-record (left k s) key m n₂ q f =
         let gone : m ≢ e .server = λ p.
         (let z : stateOf m (removedWorking (e .server) (w .state .roster)) ≡ 2 =
         removedWorking-state (e .server) (w .state .roster) s m ∙ rw (eq-eqb m (e .server) p) in
         omega (arith, q, z)) in
-        record-others key (w .state .table) (e .server) m gone f
-    keeps-record (stood h) key m n₂ q f = f
-    keeps-record (went s) key m n₂ q f = f
-    keeps-record (set z) key m n₂ q f = f
+        read-kept serverOf key (w .state .table) (e .server) m gone f ∙ f
+    keeps-record (stood k h) key m n₂ q f = f
+    keeps-record (went k s) key m n₂ q f = f
+    keeps-record (set k z) key m n₂ q f = f
 
     -- a key without a record gets none, or one that names its pick
-    pub keeps-none : {c : Change} → Goes w e c → (key : List ℕ) → recordOf key (w .state .table) ≡ none
-        → (recordOf key (c .state .table) ≡ none) ⊎ (recordOf key (c .state .table) ≡ some (pickAt w key .server))
+    pub keeps-none : {c : Change} → Goes w e c → (key : List ℕ) → serverFor key (w .state .table) ≡ none
+        → (serverFor key (c .state .table) ≡ none) ⊎ (serverFor key (c .state .table) ≡ some (pickAt w key .server))
     keeps-none (turned n) key f = inl f
-    keeps-none (served (known g s)) key f = inl f
-    keeps-none (served (safe g s u)) key f = inl f
-    keeps-none (served (written g s l)) key f =
+    keeps-none (served k (known g s)) key f = inl f
+    keeps-none (served k (safe g s u)) key f = inl f
+    keeps-none (served k (written g s l)) key f =
         let p = pickAt w (e .key) .server in
-        let new = record-new key (w .state .table) (i .along .clean) l (e .key) p sized (works-fits p s) f in
+        let new = server-new key (w .state .table) (i .along .clean) l (e .key) p sized (works-fits p s) f in
         both
         (same (e .key) key)
         (λ t. inr (new ∙ rw t (ap (λ (k : List ℕ). some (pickAt w k .server)) (same-equal (e .key) key t))))
         (λ t. inl (new ∙ rw t))
-    keeps-none (served full) key f = inl f
-    keeps-none (ended a g) key f =
+    keeps-none (served k full) key f = inl f
+    keeps-none (ended k (first g t)) key f = inl (server-halved key (w .state .table) (e .key) g ∙ f)
+    keeps-none (ended k (next g t)) key f =
         both
         (same (e .key) key)
-        (λ t. clash g (rw (same-equal (e .key) key t) (record-missing key (w .state .table) f)))
-        (λ t. inl (record-removed key (w .state .table) (e .key) g t ∙ f))
-    keeps-none unknown key f = inl f
-    keeps-none entered key f = inl f
-    keeps-none (left s) key f = inl (record-still key (w .state .table) (e .server) f)
-    keeps-none (stood h) key f = inl f
-    keeps-none (went s) key f = inl f
-    keeps-none (set z) key f = inl f
+        (λ t. clash g (rw (same-equal (e .key) key t) (read-missing serverOf key (w .state .table) f)))
+        (λ t. inl (read-removed serverOf key (w .state .table) (e .key) g t ∙ f))
+    keeps-none (ended k (nothing g)) key f = inl f
+    keeps-none (entered k) key f = inl f
+    keeps-none (left k s) key f = inl (read-without-server serverOf key (w .state .table) (e .server) f)
+    keeps-none (stood k h) key f = inl f
+    keeps-none (went k s) key f = inl f
+    keeps-none (set k z) key f = inl f

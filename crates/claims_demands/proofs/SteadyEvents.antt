@@ -2,21 +2,21 @@
 use Prim.Native.Nat.{ℕ, _<_}
 use mathlib.Core.Bool.{true, false, not}
 use mathlib.Core.List.{List}
-use mathlib.Core.Path.{_≡_, refl, ap, _∙_}
-use native.Mathlib.Omega.{arith}
+use mathlib.Core.Path.{_≡_, refl}
 use lib.Dec.{eqb, ltb}
 use borrow.Author.Tests.{eqb-true, ltb-true, not-true}
 use Rattle.sets.proofs.Cases.{both, clash}
 use Rattle.roster.specs.Roster.{working, standby, stateOf, addedWorking, removedWorking, addedHorizon, removedHorizon}
 use Rattle.event.specs.Event.{Request, asksKey, eventIn}
 use Rattle.event.proofs.Reading.{reading}
-use Rattle.table.specs.Table.{find, serverAt, used, room, appended, removed, removedServer}
+use Rattle.table.specs.Table.{find, serverAt, used, room, appended, removedServer}
 use Rattle.table.proofs.Finds.{missing-reads}
 use Rattle.rules.specs.Answer.{accepts}
-use Rattle.rules.specs.Rules.{World, Change, target, barred, refused, answered, packet, end, changed, configured, effect, judged}
+use Rattle.rules.specs.Rules.{World, Change, target, barred, refused, answered, packet, changed, configured, effect, judged}
+use Rattle.rules.proofs.Ends.{Ends, ends}
 use Rattle.claims_histories.proofs.Picking.{pickAt}
 use Rattle.claims_histories.proofs.Barring.{passed}
-use Rattle.claims_histories.proofs.EveryEvent.{Comes, turned as turned′, packets, ends, enters, leaves, stands, goes as departs, sets, comes}
+use Rattle.claims_histories.proofs.EveryEvent.{Comes, turned as turned′, packets, ends as ends′, enters, leaves, stands, goes as departs, sets, comes}
 
 -- an accepted packet of a key: led to its record's server, or to the pick, and then perhaps recorded
 pub data Served (w : World) (key : List ℕ) : Change → Type 0 where
@@ -41,21 +41,16 @@ pub data Served (w : World) (key : List ℕ) : Change → Type 0 where
 -- any event
 pub data Goes (w : World) (e : Request) : Change → Type 0 where
   turned : (n : ℕ) → Goes w e (refused n (w .state))
-  served : {c : Change} → Served w (e .key) c → Goes w e c
-  ended : e ≡ asksKey 2 (e .key) → find (e .key) (w .state .table) .found ≡ true
-      → Goes w e
-      (answered
-      (accepts 0 5 (find (e .key) (w .state .table) .reads))
-      (removed (find (e .key) (w .state .table) .reads) (w .state .table))
-      (w .state))
-  unknown : Goes w e (answered (accepts 0 6 (find (e .key) (w .state .table) .reads)) (w .state .table) (w .state))
-  entered : Goes w e (changed (addedWorking (e .server) (w .state .roster)) (w .state .table) (w .state))
-  left : stateOf (e .server) (w .state .roster) ≡ working
+  served : e .kind ≡ 1 → {c : Change} → Served w (e .key) c → Goes w e c
+  ended : e .kind ≡ 2 → {c : Change} → Ends (find (e .key) (w .state .table)) (w .state) c → Goes w e c
+  entered : e .kind ≡ 3 → Goes w e (changed (addedWorking (e .server) (w .state .roster)) (w .state .table) (w .state))
+  left : e .kind ≡ 4 → stateOf (e .server) (w .state .roster) ≡ working
       → Goes w e (changed (removedWorking (e .server) (w .state .roster)) (removedServer (e .server) (w .state .table)) (w .state))
-  stood : w .state .roster .held < 64 → Goes w e (changed (addedHorizon (e .server) (w .state .roster)) (w .state .table) (w .state))
-  went : stateOf (e .server) (w .state .roster) ≡ standby
+  stood : e .kind ≡ 5 → w .state .roster .held < 64
+      → Goes w e (changed (addedHorizon (e .server) (w .state .roster)) (w .state .table) (w .state))
+  went : e .kind ≡ 6 → stateOf (e .server) (w .state .roster) ≡ standby
       → Goes w e (changed (removedHorizon (e .server) (w .state .roster)) (w .state .table) (w .state))
-  set : w .state .roster .held ≡ 0 → Goes w e (configured (e .settings) (w .state))
+  set : e .kind ≡ 7 → w .state .roster .held ≡ 0 → Goes w e (configured (e .settings) (w .state))
 
 -- ---- every event comes to one of these
 
@@ -80,20 +75,15 @@ module _ (w : World) where
       rw (a, b, c, missing-reads key t a) (written a (rw a at s) (ltb-true (used t) (room t) u)))
       (λ c. rw (a, b, c) full)))
 
-  module _ (e : Request) (asked : e .kind ≡ 2 → e ≡ asksKey 2 (e .key)) where
-    goes-end : e .kind ≡ 2 → Goes w e (end (find (e .key) (w .state .table)) (w .state))
-    unfolding end
-    goes-end k = both (find (e .key) (w .state .table) .found) (λ f. rw f (ended (asked k) f)) (λ f. rw f unknown)
-
-    goes-on : {c : Change} → Comes e (find (e .key) (w .state .table)) (pickAt w (e .key)) (w .state) c → Goes w e c
-    goes-on (turned′ n) = turned n
-    goes-on (packets s) = served (served-packet (e .key) s)
-    goes-on (ends k) = goes-end k
-    goes-on (enters s) = entered
-    goes-on (leaves s) = left s
-    goes-on (stands k s room) = stood room
-    goes-on (departs s) = went s
-    goes-on (sets none) = set none
+  goes-on : (e : Request) {c : Change} → Comes e (find (e .key) (w .state .table)) (pickAt w (e .key)) (w .state) c → Goes w e c
+  goes-on e (turned′ n) = turned n
+  goes-on e (packets k s) = served k (served-packet (e .key) s)
+  goes-on e (ends′ k) = ended k (ends (find (e .key) (w .state .table)) (w .state))
+  goes-on e (enters k s) = entered k
+  goes-on e (leaves k s) = left k s
+  goes-on e (stands k s free) = stood k free
+  goes-on e (departs k s) = went k s
+  goes-on e (sets k none) = set k none
 
   -- a packet that is accepted
   pub served-accepted : (key : List ℕ)
@@ -112,6 +102,4 @@ module _ (w : World) where
 pub goes : (w : World) (bytes : List ℕ) → Goes w (eventIn bytes) (changeOf w (eventIn bytes))
 goes w bytes =
     let e = eventIn bytes in
-    let f = reading bytes in
-    goes-on w e (λ k. f .key-asked (omega arith) (omega arith) ∙ ap (λ (n : ℕ). asksKey n (e .key)) k)
-    (comes e (find (e .key) (w .state .table)) (pickAt w (e .key)) (w .state) (f .kind-known))
+    goes-on w e (comes e (find (e .key) (w .state .table)) (pickAt w (e .key)) (w .state) (reading bytes .kind-known))

@@ -10,6 +10,7 @@ use lib.Dec.{ltb}
 use lib.ListN.{length}
 use Rattle.sets.specs.Sets.{member}
 use Rattle.sets.proofs.Cases.{both, clash, either}
+use Rattle.spans.specs.Spans.{same}
 use Rattle.spans.proofs.Scans.{same-self}
 use Rattle.ranking.specs.declared.Pick.{Pick}
 use Rattle.ranking.specs.Ranking.{choice, outranked}
@@ -20,27 +21,29 @@ use Rattle.roster.specs.declared.Roster.{Roster}
 use Rattle.roster.specs.Roster.{working, stateOf, heldServers, workingSet, horizon}
 use Rattle.roster.proofs.Sets.{held-sets}
 use Rattle.event.specs.Event.{Request, asksKey}
-use Rattle.table.specs.Table.{find, room}
+use Rattle.table.specs.Table.{serverOf, find, room}
 use Rattle.ringplan.specs.Plan.{some as any}
+use Rattle.rules.specs.Answer.{Answer}
 use Rattle.rules.specs.Rules.{World, Change, target, barred, packet, effect, judged}
 use Rattle.claims_histories.specs.Histories.{rankingFor}
 use Rattle.claims_histories.proofs.Inner.{Inner}
 use Rattle.claims_histories.proofs.Picking.{pickAt, ranking-strict, pick-right}
-use Rattle.claims_demands.proofs.SteadyRecords.{recordOf, found-record, missing-record, record-found, record-missing, record-new}
+use Rattle.claims_demands.proofs.SteadyRecords.{serverFor, found-server, missing-read, server-found, read-missing, server-new}
 use Rattle.claims_demands.proofs.SteadyEvents.{Served, known, safe, written, full, Goes, changeOf}
 use Rattle.claims_demands.proofs.SteadyChanges.{works-member, works-fits, keeps-settings, keeps-record, keeps-none}
 
 -- since its packet the key has a record that names m; or it has none, and neither a server of P nor a working one outranks m. m works, and
 -- the settings are those of the packet.
 pub data Kept (c : Settings) (P : ℕ → Type 0) (key : List ℕ) (m : ℕ) (t : List ℕ) (r : Roster) : Type 0 where
-  recorded : r .settings ≡ c → stateOf m r ≡ working → recordOf key t ≡ some m → Kept c P key m t r
-  unmoved : r .settings ≡ c → stateOf m r ≡ working → recordOf key t ≡ none → ((x : ℕ) → P x → rankingFor c key x m ≡ false)
+  recorded : r .settings ≡ c → stateOf m r ≡ working → serverFor key t ≡ some m → Kept c P key m t r
+  unmoved : r .settings ≡ c → stateOf m r ≡ working → serverFor key t ≡ none → ((x : ℕ) → P x → rankingFor c key x m ≡ false)
       → ((x : ℕ) → member x (workingSet r) ≡ true → rankingFor c key x m ≡ false) → Kept c P key m t r
 
--- the provisos at one event e, which led from roster r to r′
-pub record Fair (P : ℕ → Type 0) (key : List ℕ) (m : ℕ) (r : Roster) (e : Request) (r′ : Roster) : Type 0 where
+-- the provisos at one event e, which was answered by a and led from roster r to r′; what that about ends is good for: no end of the key
+-- removed its record
+pub record Fair (P : ℕ → Type 0) (key : List ℕ) (m : ℕ) (r : Roster) (e : Request) (a : Answer) (r′ : Roster) : Type 0 where
   pub works : stateOf m r′ ≡ working
-  pub unended : e ≢ asksKey 2 key
+  pub unremoved : e .kind ≡ 2 → same (e .key) key ≡ true → a .mark ≢ 5
   pub brought : (x : ℕ) → member x (workingSet r′) ≡ true → member x (workingSet r) ≡ false → P x
 
 member-any : (x : ℕ) (l : List ℕ) → member x l ≡ true → any l ≡ true
@@ -58,10 +61,10 @@ module _ (w : World) (i : Inner w) (key : List ℕ) where
 
   -- one event
   pub kept-after : {e : Request} {c : Change} → length (e .key) ≡ 13 → Goes w e c → (d : Settings) (P : ℕ → Type 0) (m : ℕ)
-      → Fair P key m (w .state .roster) e (c .state .roster)
+      → Fair P key m (w .state .roster) e (c .answer) (c .state .roster)
       → Kept d P key m (w .state .table) (w .state .roster) → Kept d P key m (c .state .table) (c .state .roster)
   kept-after n g d P m a (recorded s q f) =
-      recorded (keeps-settings w i n g m q ∙ s) (a .works) (keeps-record w i n g key m (a .unended) (a .works) f)
+      recorded (keeps-settings w i n g m q ∙ s) (a .works) (keeps-record w i n g key m (a .unremoved) (a .works) f)
   kept-after n g d P m a (unmoved s q f top topw) =
       ⊎-elim
       (λ f′.
@@ -74,7 +77,7 @@ module _ (w : World) (i : Inner w) (key : List ℕ) where
   pub kept-first : {c : Change} → length key ≡ 13 → Served w key c → c .answer .mark ≢ 4 → (P : ℕ → Type 0)
       → ((x : ℕ) → P x → member x (heldServers (w .state .roster)) ≡ true)
       → Kept (w .state .roster .settings) P key (c .answer .server) (c .state .table) (c .state .roster)
-  kept-first n (known f q) r P within = recorded refl q (found-record key (w .state .table) f)
+  kept-first n (known f q) r P within = recorded refl q (found-server key (w .state .table) f)
   kept-first n (safe f q u) r P within =
       let ro = w .state .roster in
       let R = rankingFor (ro .settings) key in
@@ -86,7 +89,7 @@ module _ (w : World) (i : Inner w) (key : List ℕ) where
       sym (unsafe-outranked R S (pickAt w key .server) (workingSet ro) (horizon ro) works) ∙ sym (ap (λ (x : Pick). x .flag) p) ∙ u in
       let top : (x : ℕ) → member x (workingSet ro) ≡ true → R x (pickAt w key .server) ≡ false =
       λ x h. rw (← server) (choice-tops R S x (workingSet ro) h) in
-      unmoved refl q (missing-record key (w .state .table) f)
+      unmoved refl q (missing-read serverOf key (w .state .table) f)
       (λ x h.
       either
       (member x (workingSet ro))
@@ -98,15 +101,15 @@ module _ (w : World) (i : Inner w) (key : List ℕ) where
   kept-first n (written f q l) r P within =
       let p = pickAt w key .server in
       recorded refl q
-      (record-new key (w .state .table) (i .along .clean) l key p n (works-fits w i p q) (missing-record key (w .state .table) f)
+      (server-new key (w .state .table) (i .along .clean) l key p n (works-fits w i p q) (missing-read serverOf key (w .state .table) f)
       ∙ rw (same-self key))
   kept-first n full r P within = absurd (r refl)
 
   -- where a packet of the key is led
   kept-target : (d : Settings) (P : ℕ → Type 0) (m : ℕ) → Kept d P key m (w .state .table) (w .state .roster)
       → (stateOf m (w .state .roster) ≡ working) × (target (find key (w .state .table)) (pickAt w key) (w .state) ≡ m)
-  kept-target d P m (recorded s q f) = let (a, b) = record-found key (w .state .table) m f in (q, rw a b)
-  kept-target d P m (unmoved s q f top topw) = (q, rw (record-missing key (w .state .table) f) (pick-tops d m s q topw))
+  kept-target d P m (recorded s q f) = let (a, b) = server-found key (w .state .table) m f in (q, rw a b)
+  kept-target d P m (unmoved s q f top topw) = (q, rw (read-missing serverOf key (w .state .table) f) (pick-tops d m s q topw))
 
   -- an accepted packet is given the server that it is led to
   packet-led : (packet key (find key (w .state .table)) (pickAt w key) (w .state) .answer .accepted ≡ true)

@@ -3,10 +3,9 @@
 use Prim.Native.Nat.{ℕ, _*_, _%_}
 use mathlib.Core.Bool.{true}
 use mathlib.Core.List.{List, [], _∷_, _++_}
-use mathlib.Core.Logic.{_≢_}
-use mathlib.Core.Path.{_≡_, refl, sym, ap, _∙_}
+use mathlib.Core.Path.{_≡_, refl, _∙_}
 use native.Mathlib.Omega.{arith}
-use lib.ListN.{getD, replicate}
+use lib.ListN.{replicate}
 use Rattle.sets.specs.Sets.{inState}
 use Rattle.sets.proofs.Cases.{clash}
 use Rattle.spans.specs.Spans.{same, allZero}
@@ -15,19 +14,19 @@ use Rattle.ranking.specs.Methods.{inRow}
 use Rattle.settings.specs.Settings.{valid, wellFormed}
 use Rattle.lists.specs.Lists.{rising, allStated, before, putIn}
 use Rattle.roster.specs.Roster.{working, standby, stateOf, emptyRoster, sound, stateIn, restated, addedHorizon}
-use Rattle.event.specs.Event.{Request, asksKey, eventIn, byKind, asksServer, asksSettings, allBytes}
-use Rattle.table.specs.Table.{usedTag, firstRecords, recordsOf, usedAmong, usedPart, findAmong, find, serverAt, bytesOf, writtenAfter, packed, without, removed, notNaming, removedServer}
+use Rattle.event.specs.Event.{eventIn, byKind, asksServer, asksSettings, allBytes}
+use Rattle.table.specs.Table.{usedTag, firstRecords, recordsOf, usedAmong, usedPart, findAmong, find, serverAt, tagAt, bytesOf, writtenAfter, packed, without, removed, halfClosed, notNaming, removedServer}
 use Rattle.rows.specs.Rows.{upTo, written, filled, cleared, rowRead}
 use Rattle.ring.specs.Ring.{blank}
 use Rattle.rules.specs.Answer.{accepts}
 use Rattle.rules.specs.Rules.{World, sizesRight, lentBar, admitted, barred, packet, end, refilled, effect, judged, pickBy, eventOf, startOf}
-use Rattle.claims_histories.specs.Histories.{after, rankingFor}
-use Rattle.claims_demands.specs.Demands.{ours, Provisos}
+use Rattle.claims_histories.specs.Histories.{startAccepted, after, AllBytes, rankingFor}
+use Rattle.claims_demands.specs.Demands.{ours, endsSince, Provisos}
 use Rattle.claims_demands.proofs.Steady.{ours-steady}
 
 -- all that a history under one row computes by
 unfoldable pub computed : Unit {0}
-unfolding after startOf eventOf lentBar admitted judged barred effect packet end sizesRight refilled pickBy eventIn byKind asksServer asksSettings allBytes wellFormed valid allZero same sound rising allStated inState stateIn restated before putIn addedHorizon usedTag firstRecords recordsOf usedAmong usedPart findAmong find serverAt bytesOf writtenAfter packed without removed notNaming removedServer upTo written filled cleared rowRead weight F stirAll stir
+unfolding endsSince after startOf eventOf lentBar admitted judged barred effect packet end sizesRight refilled pickBy eventIn byKind asksServer asksSettings allBytes wellFormed valid allZero same sound rising allStated inState stateIn restated before putIn addedHorizon usedTag firstRecords recordsOf usedAmong usedPart findAmong find serverAt tagAt bytesOf writtenAfter packed without removed halfClosed notNaming removedServer upTo written filled cleared rowRead weight F stirAll stir
 computed = tt
 
 -- lent buffers of the right sizes, all zero, with room for n records
@@ -80,12 +79,16 @@ two = enters 2 ∷ stands 2 ∷ oneRow ∷ []
 abbrev pub twoAndStandby : List (List ℕ)
 twoAndStandby = stands 4 ∷ two
 
--- an event of another kind, or of a key with another first byte, is not the end of a key
-pub other-kind : (e : Request) (key : List ℕ) (kind : ℕ) → e .kind ≡ kind → kind ≢ 2 → e ≢ asksKey 2 key
-other-kind e key kind k n q = n (sym k ∙ ap (λ (a : Request). a .kind) q)
-
-pub other-key : (e : Request) (key : List ℕ) (a b : ℕ) → getD (e .key) 0 0 ≡ a → getD key 0 0 ≡ b → a ≢ b → e ≢ asksKey 2 key
-other-key e key a b p r n q = n (sym p ∙ ap (λ (x : Request). getD (x .key) 0 0) q ∙ r)
+-- demand 3 applied to two packets of key 1, of which the earlier got m
+pub covered : (n m : ℕ) (h between : List (List ℕ)) → startAccepted (lent n) ≡ true → AllBytes (packetOf 1 ∷ (between ++ (packetOf 1 ∷ h)))
+    → ours (lent n) .says h (packetOf 1) .accepted ≡ true → ours (lent n) .says h (packetOf 1) .server ≡ m
+    → Provisos (ours (lent n)) h (packetOf 1) (keyed 1) m between
+    → (ours (lent n) .says (between ++ (packetOf 1 ∷ h)) (packetOf 1) .accepted ≡ true)
+    × (ours (lent n) .says (between ++ (packetOf 1 ∷ h)) (packetOf 1) .server ≡ m)
+unfolding computed
+covered n m h between starts bytes ok first v =
+    let s = ours-steady (lent n) starts .steady h between (packetOf 1) (packetOf 1) (keyed 1) bytes refl refl ok (rw first v) in
+    (s .accepted, s .same ∙ first)
 
 -- ---- a standby joins between two packets of a key, which is recorded
 
@@ -112,12 +115,9 @@ unfolding computed
 joins-provisos =
     record {
       worked = (refl, (refl, (refl, tt)));
-      unended = (
-        other-kind (eventIn (enters 4)) (keyed 1) 3 refl (λ q. omega arith),
-        (
-          other-key (eventIn (endOf 9)) (keyed 1) 9 1 refl refl (λ q. omega arith),
-          (other-kind (eventIn (1 ∷ 2 ∷ [])) (keyed 1) 0 refl (λ q. omega arith), tt),
-        ),
+      ends = (
+        (λ q n. clash q refl, λ q. clash q refl),
+        ((λ q n. clash q refl, λ q. clash q refl), ((λ q n. clash q refl, λ q. clash q refl), tt)),
       );
       held = (λ x m n. m, (λ x m n. clash m n, (λ x m n. clash m n, tt)));
       roomTold = λ q. let z : _≡_ {A = ℕ} 3 4 = q in omega arith;
@@ -127,11 +127,4 @@ joins-provisos =
 pub joins-steady : (ours (lent 2) .says (joins ++ (packetOf 1 ∷ twoAndStandby)) (packetOf 1) .accepted ≡ true)
     × (ours (lent 2) .says (joins ++ (packetOf 1 ∷ twoAndStandby)) (packetOf 1) .server ≡ 2)
 unfolding computed
-joins-steady =
-    let s = ours-steady (lent 2) refl .steady twoAndStandby joins (packetOf 1) (packetOf 1) (keyed 1)
-    (refl, (refl, (refl, (refl, (refl, (refl, (refl, (refl, (refl, tt)))))))))
-    refl
-    refl
-    refl
-    joins-provisos in
-    (s .accepted, s .same)
+joins-steady = covered 2 2 twoAndStandby joins refl (refl, (refl, (refl, (refl, (refl, (refl, (refl, (refl, (refl, tt))))))))) refl refl joins-provisos

@@ -32,14 +32,14 @@ use Rattle.claims_histories.proofs.Changing.{addedWorking-keeps, remove
 module _ (w : World) (i : Inner w) (bytes : List ℕ) (b : allBytes bytes ≡ true) (e : Request) (f : Fields bytes e) (pick : Pick) where
   comes-keeps : {c : Change} → Comes e (find (e .key) (w .state .table)) pick (w .state) c → Inner ((settled c (w .ring)) .world)
   comes-keeps (turned n) = i
-  comes-keeps (packets s) = packet-keeps w i (e .key) pick (f .key-sized) s
+  comes-keeps (packets k s) = packet-keeps w i (e .key) pick (f .key-sized) s
   comes-keeps (ends k) = end-keeps w i (e .key)
-  comes-keeps (enters s) = addedWorking-keeps w i (e .server) s
-  comes-keeps (leaves s) = removedWorking-keeps w i (e .server) s
+  comes-keeps (enters k s) = addedWorking-keeps w i (e .server) s
+  comes-keeps (leaves k s) = removedWorking-keeps w i (e .server) s
   comes-keeps (stands k s room) =
       addedHorizon-keeps w i (e .server) (f .server-some (omega arith) (omega arith)) (f .server-small b) room s
-  comes-keeps (goes s) = removedHorizon-keeps w i (e .server) s
-  comes-keeps (sets none) = configured-keeps w i (e .settings) (f .settings-valid) none
+  comes-keeps (goes k s) = removedHorizon-keeps w i (e .server) s
+  comes-keeps (sets k none) = configured-keeps w i (e .settings) (f .settings-valid) none
 
   judged-keeps : Inner ((settled (judged e (find (e .key) (w .state .table)) pick (w .state)) (w .ring)) .world)
   judged-keeps = comes-keeps (comes e (find (e .key) (w .state .table)) pick (w .state) (f .kind-known))

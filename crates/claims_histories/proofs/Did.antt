@@ -101,13 +101,13 @@ did-along w s h bytes b a =
 module _ (e : Request) (found : Finding) (pick : Pick) (st : State) where
   draws-none : {c : Change} → Comes e found pick st c → c .state .roster .settings .method ≢ 2 → c .redraw ≡ false
   draws-none (turned n) m = refl
-  draws-none (packets t) m = packet-still (e .key) found pick st
+  draws-none (packets k t) m = packet-still (e .key) found pick st
   draws-none (ends k) m = end-still found st
-  draws-none (enters t) m = ne-eqb _ 2 m
-  draws-none (leaves t) m = ne-eqb _ 2 m
+  draws-none (enters k t) m = ne-eqb _ 2 m
+  draws-none (leaves k t) m = ne-eqb _ 2 m
   draws-none (stands k t free) m = ne-eqb _ 2 m
-  draws-none (goes t) m = ne-eqb _ 2 m
-  draws-none (sets n) m = refl
+  draws-none (goes k t) m = ne-eqb _ 2 m
+  draws-none (sets k n) m = refl
 
 pub ring-untouched : (w : World) → startAccepted w ≡ true → (h : List (List ℕ)) (bytes : List ℕ) → AllBytes (bytes ∷ h)
     → after w (bytes ∷ h) .state .roster .settings .method ≢ 2 → after w (bytes ∷ h) .ring ≡ after w h .ring

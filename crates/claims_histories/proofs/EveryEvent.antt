@@ -24,25 +24,25 @@ empty-holds st e =
 module _ (e : Request) (found : Finding) (pick : Pick) (st : State) where
   pub data Comes : Change → Type 0 where
     turned : (n : ℕ) → Comes (refused n st)
-    packets : stateOf (target found pick st) (st .roster) ≡ working → Comes (packet (e .key) found pick st)
+    packets : e .kind ≡ 1 → stateOf (target found pick st) (st .roster) ≡ working → Comes (packet (e .key) found pick st)
     ends : e .kind ≡ 2 → Comes (end found st)
-    enters : stateOf (e .server) (st .roster) ≡ standby → Comes (changed (addedWorking (e .server) (st .roster)) (st .table) st)
-    leaves : stateOf (e .server) (st .roster) ≡ working
+    enters : e .kind ≡ 3 → stateOf (e .server) (st .roster) ≡ standby → Comes (changed (addedWorking (e .server) (st .roster)) (st .table) st)
+    leaves : e .kind ≡ 4 → stateOf (e .server) (st .roster) ≡ working
         → Comes (changed (removedWorking (e .server) (st .roster)) (removedServer (e .server) (st .table)) st)
     stands : e .kind ≡ 5 → stateOf (e .server) (st .roster) ≡ 0 → st .roster .held < 64
         → Comes (changed (addedHorizon (e .server) (st .roster)) (st .table) st)
-    goes : stateOf (e .server) (st .roster) ≡ standby → Comes (changed (removedHorizon (e .server) (st .roster)) (st .table) st)
-    sets : st .roster .held ≡ 0 → Comes (configured (e .settings) st)
+    goes : e .kind ≡ 6 → stateOf (e .server) (st .roster) ≡ standby → Comes (changed (removedHorizon (e .server) (st .roster)) (st .table) st)
+    sets : e .kind ≡ 7 → st .roster .held ≡ 0 → Comes (configured (e .settings) st)
 
   by-kind : {k : ℕ} → Kind k → e .kind ≡ k → Passed e found pick st → Comes (effect e found pick st)
   unfolding effect
-  by-kind packet-kind k p = rw k (packets (p .led (eq-eqb (e .kind) 1 k)))
+  by-kind packet-kind k p = rw k (packets refl (p .led (eq-eqb (e .kind) 1 k)))
   by-kind end-kind k p = rw k (ends refl)
-  by-kind addWorking k p = rw k (enters (p .enters (eq-eqb (e .kind) 3 k)))
-  by-kind removeWorking k p = rw k (leaves (p .leaves (eq-eqb (e .kind) 4 k)))
+  by-kind addWorking k p = rw k (enters refl (p .enters (eq-eqb (e .kind) 3 k)))
+  by-kind removeWorking k p = rw k (leaves refl (p .leaves (eq-eqb (e .kind) 4 k)))
   by-kind addHorizon k p = rw k (stands refl (p .unknown (eq-eqb (e .kind) 5 k)) (p .room (eq-eqb (e .kind) 5 k)))
-  by-kind removeHorizon k p = rw k (goes (p .goes (eq-eqb (e .kind) 6 k)))
-  by-kind configure k p = rw k (sets (empty-holds st (p .configures (eq-eqb (e .kind) 7 k))))
+  by-kind removeHorizon k p = rw k (goes refl (p .goes (eq-eqb (e .kind) 6 k)))
+  by-kind configure k p = rw k (sets refl (empty-holds st (p .configures (eq-eqb (e .kind) 7 k))))
 
   pub comes : (0 < e .kind → Kind (e .kind)) → Comes (judged e found pick st)
   unfolding judged

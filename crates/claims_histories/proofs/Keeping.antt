@@ -1,7 +1,7 @@
--- Each thing that an event can do keeps the facts: another table, a record written or taken away, a change of roster, new settings.
+-- Each thing that an event can do keeps the facts: another table, a record written, half-closed or taken away, a change of roster, new settings.
 use Prim.Native.Nat.{ℕ, _^_, _<_}
 use mathlib.Core.Bool.{true, false, cond, not}
-use mathlib.Core.List.{List}
+use mathlib.Core.List.{List, map}
 use mathlib.Core.Path.{_≡_, ap, _∙_}
 use native.Mathlib.Omega.{arith}
 use lib.Dec.{eqb, ltb}
@@ -16,16 +16,19 @@ use Rattle.roster.specs.Roster.{sound, working, stateOf, heldServers, workingSe
 use Rattle.roster.proofs.Form.{Sized, sound-parts, held-servers, settings-sized, settings-sound}
 use Rattle.roster.proofs.Sets.{working-state}
 use Rattle.roster.proofs.Bounds.{Below, working-below}
-use Rattle.table.specs.Table.{find, used, room, usedPart, appended, removed, entries, noStray}
-use Rattle.table.proofs.Records.{entries-removed, length-removed, length-written}
+use Rattle.table.specs.Table.{find, used, room, usedPart, appended, halfClosed, removed, recOf, entries, noStray}
+use Rattle.table.proofs.HalfClosed.{length-half, clean-half}
+use Rattle.table.proofs.Records.{used-removed, length-removed, length-written}
 use Rattle.table.proofs.Finds.{missing-none, missing-reads}
 use Rattle.table.proofs.Stray.{entries-appended, clean-appended, clean-removed}
 use Rattle.ringplan.specs.Plan.{drawn}
-use Rattle.rules.specs.Rules.{World, rowsOf, withTable, withSettings, target, packet, end, changed, configured, settled}
+use Rattle.rules.specs.Rules.{World, Change, rowsOf, withTable, withSettings, target, packet, end, changed, configured, settled}
+use Rattle.rules.proofs.Ends.{Ends, first, next, nothing, ends}
 use Rattle.claims_histories.specs.Histories.{Distinct, AllWorking}
 use Rattle.rules.proofs.Sizes.{right-sizes}
 use Rattle.claims_histories.proofs.Inner.{Inner}
 use Rattle.claims_histories.proofs.Recorded.{recorded-nowhere, distinct-append, distinct-without, named-append, named-without, named-under}
+use Rattle.claims_histories.proofs.HalfClosing.{used-closed, distinct-closed, named-closed}
 use Rattle.claims_histories.proofs.Drawing.{drawn-again, drawn-length, drawn-none, none-held, refilled-again, refilled-lengths, refilled-cleared, cleared-lengths}
 
 -- a working server of the roster is one of 4 bytes
@@ -80,20 +83,29 @@ module _ (w : World) (i : Inner w) where
       rw (a, b, c, missing-reads key t a) (appended-keeps key (pick .server) k a (ltb-true (used t) (room t) u) (rw a at e)))
       (λ c. rw (a, b, c) i)))
 
-  pub end-keeps : (key : List ℕ) → Inner ((settled (end (find key (w .state .table)) (w .state)) (w .ring)) .world)
-  unfolding end
-  end-keeps key =
+  -- a table that has these records of the used part
+  part-keeps : (t : List ℕ) {rs : List (List ℕ)} → usedPart t ≡ rs → length t ≡ length (w .state .table) → noStray t ≡ true
+      → Distinct (map recOf rs) → AllWorking (w .state .roster) (map recOf rs)
+      → Inner (record { state = withTable t (w .state); ring = w .ring })
+  part-keeps t u n c d a = table-keeps t n (rw u d) (rw u a) c
+
+  ended-keeps : (key : List ℕ) {c : Change} → Ends (find key (w .state .table)) (w .state) c → Inner ((settled c (w .ring)) .world)
+  ended-keeps key (first f tag) =
       let t = w .state .table in
       let p = find key t .reads in
-      both (find key t .found)
-      (λ a. rw a
-      (table-keeps
-      (removed p t)
-      (length-removed t p)
-      (rw (entries-removed t p) (distinct-without p (usedPart t) (i .along .distinct)))
-      (rw (entries-removed t p) (named-without (w .state .roster) p (usedPart t) (i .along .named)))
-      (clean-removed t (i .along .clean) p)))
-      (λ a. rw a i)
+      part-keeps (halfClosed p t) (used-closed t p) (length-half t p) (clean-half t p ∙ i .along .clean)
+      (distinct-closed p (usedPart t) (i .along .distinct))
+      (named-closed (w .state .roster) p (usedPart t) (i .along .named))
+  ended-keeps key (next f tag) =
+      let t = w .state .table in
+      let p = find key t .reads in
+      part-keeps (removed p t) (used-removed t p) (length-removed t p) (clean-removed t (i .along .clean) p)
+      (distinct-without p (usedPart t) (i .along .distinct))
+      (named-without (w .state .roster) p (usedPart t) (i .along .named))
+  ended-keeps key (nothing f) = i
+
+  pub end-keeps : (key : List ℕ) → Inner ((settled (end (find key (w .state .table)) (w .state)) (w .ring)) .world)
+  end-keeps key = ended-keeps key (ends (find key (w .state .table)) (w .state))
 
   -- a sound roster, with a table whose records name its working servers
   module _ (r : Roster) (z : Sized r) (so : sound r ≡ true) where
