@@ -351,20 +351,21 @@ def one_end_only():
 
 
 def left(before, *between):
-    """Sessions end, something happens, they send a packet and end again: those whose record is left. One more end frees its place. So does
-    the first end of a new session with the same key, which that record leads until then."""
+    """Sessions end, something happens, they send a packet and end again: those whose record is left. One more end, sent at once, frees its
+    place. So does the first end of a new session with the same key, which that record leads until then."""
     written, last, led, freed = run(before + P, ends(K), *between, P, ends(K), P, ends(K))[-4:]
     behind = marked(last, 8)
     assert behind and behind == marked(written, 3) and last[-1].used == len(behind)
     assert behind <= marked(led, 1) and behind <= marked(freed, 5)
-    once_more = run(before + P, ends(K), *between, P, ends(K), ends(K))[-1]
-    assert marked(once_more, 5) == behind and once_more[-1].used == 0
+    twice = run(before + P, ends(K), *between, P, ends(k for k in K for _ in range(2)))[-1]
+    assert marked(twice[::2], 8) == marked(twice[1::2], 5) == behind and set(marks(twice[1::2])) == {5, 6} and twice[-1].used == 0
     return behind
 
 
 @says("a record that is written between a session's two ends is half-closed by the last of them, and stays",
       "finds room at last (mark 4 before), becomes unsafe since a further mover stands by, loses its mover, or lives through a restart",
       "A later session with the same key is led by it, with mark 1, and loses it at its first end already",
+      "A front end that sends the last end twice leaves none behind (tested): the further one gets mark 5 there, and else mark 6",
       "a record that they get anew is [left behind](#sessions-that-close-one-side-first) at their last end")
 def left_behind():
     assert left(roster(WORK, []), add_horizon(9)) == {i for i, k in enumerate(K) if taken(k, choice(k, WORK), [9])}
