@@ -181,6 +181,8 @@ def said():
     sessions, few = without(27000, 1 / 8), rotated(14, 2, 2)
     return (f"plan for {most(1 / 8) // 100 * 100:,} live sessions", f"With the margin it is {most(1 / 8):,}:", f"= {100 * few:.1f} %, not 12.5 %",
             f"about {round(PLACES / few, -1):,.0f} sessions, with the margin by {most(few):,}: plan for {most(few) // 100 * 100:,}",
+            f"{100 * 1 / 2 / 2:.0f} % come on top of the rule's {100 * few:.1f} %",
+            f"by about {round(PLACES / (few + 1 / 2 / 2), -1):,.0f} sessions, not by {round(PLACES / few, -1):,.0f}",
             f"z = {(PLACES - 27000 / 8) / spread(27000, 1 / 8)[1]:.2f} and W = {sessions:.0f}.",
             f"12 x {sessions:.0f} = {12 * round(sessions):,} packets with mark 4",
             f"{100 * taken(14, 2):.0f} % of the sessions without a place: {sessions * taken(14, 2):.0f} tapes", f"which is {(8000 - 2 * PLACES) / MOVERS:.1f}:")

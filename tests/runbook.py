@@ -254,7 +254,7 @@ def join_with_mark_4():
     assert want and moved(first, after) == want and {after[i].server for i in want} == {3}
 
 
-@says("Mark 5 frees a place, mark 6 frees none", "The opposite direction is another session")
+@says("Mark 5 frees a place, marks 6 and 8 free none", "The opposite direction is another session")
 def ends_free_places():
     first = full()[0]
     gone, waiting = sorted(marked(first, 3))[:40:4], sorted(marked(first, 4))
@@ -272,7 +272,7 @@ def ends_free_places():
 
 
 @says("No session moves. It ends the marks 4 that only this standby caused and frees no place",
-      "a record stays until its session ends or its mover stops")
+      "a record stays until its second end or until its mover stops")
 def standby_taken_out():
     first, out, after = full(remove_horizon(6), packets(MANY))
     accepted(out, after)
@@ -293,7 +293,8 @@ def restart_with_fewer_standbys():
     assert marked(last, 1) and not moved(last, run(roster([1, 2, 4, 6, 7, 8], [3, 9]), P)[1]), "without a join, but with movers that stopped"
 
 
-@says("A lost end can be sent late", "A live one loses its record, as in a restart")
+@says("A lost end can be sent late, twice where both were lost", "A live one loses its record at the second, as in a restart",
+      "An end too many takes a live session's record away, as a restart would", "In return a session stays at its mover while it reads on")
 def late_end_of_a_live_session():
     parts = run(roster(WORK, STAND), P, add_working(9), P, ends(K), P, ends(K), P)
     before, closed, after = parts[3], parts[5], parts[7]
@@ -315,6 +316,74 @@ def two_front_doors():
     for part in doors:
         got = run(roster([1, 2], [3, 4, 5, 6]), packets(MANY[part]))[1]
         assert servers(got) == servers(first[part]) and not marked(got, 4)
+
+
+# ---- sessions that close one side first
+
+def marks(lines):
+    return [line.mark for line in lines]
+
+
+@says("The record keeps its place and goes on leading the session", "changes nothing and isn't remembered",
+      "One that learns only that a session is over sends its end twice, at once", "A packet behind the second is a new session")
+def both_ends():
+    for method, rows in METHODS:
+        parts = run(roster(WORK, STAND, method, rows) + ends(K), P, ends(K), P, ends(K), P, ends(k for k in K for _ in range(2)))
+        early, first, half, led, over, again, twice = parts
+        recorded = marked(first, 3)
+        assert recorded and marked(first, 2, 3) == set(range(1000)) and marks(early[-1000:]) == [6] * 1000
+        assert marked(half, 8) == recorded == marked(led, 1) == marked(over, 5) and not moved(first, led)
+        assert half[-1].used == led[-1].used == len(recorded) and over[-1].used == 0
+        assert marks(again) == marks(first) and twice[-1].used == 0
+        assert marked(twice[::2], 8) == recorded == marked(twice[1::2], 5)
+
+
+@says("One that reports one only never frees a place: its records stay half-closed until their mover stops")
+def one_end_only():
+    parts = run(roster(WORK, STAND), *[x for n in range(0, 1000, 200) for x in (P[n:n + 200], ends(K[n:n + 200]))], *map(remove_working, WORK))
+    lines = [line for part in parts[1:-8] for line in part]
+    recorded = [line.server for line in lines if line.mark == 3]
+    assert parts[-9][-1].used == len(recorded) == marks(lines).count(8) and 5 not in marks(lines)
+    used = len(recorded)
+    for mover, (stop,) in zip(WORK, parts[-8:]):
+        used -= recorded.count(mover)
+        assert stop.used == used
+
+
+def left(before, *between):
+    """Sessions end, something happens, they send a packet and end again: those whose record is left. One more end, sent at once, frees its
+    place. So does the first end of a new session with the same key, which that record leads until then."""
+    written, last, led, freed = run(before + P, ends(K), *between, P, ends(K), P, ends(K))[-4:]
+    behind = marked(last, 8)
+    assert behind and behind == marked(written, 3) and last[-1].used == len(behind)
+    assert behind <= marked(led, 1) and behind <= marked(freed, 5)
+    twice = run(before + P, ends(K), *between, P, ends(k for k in K for _ in range(2)))[-1]
+    assert marked(twice[::2], 8) == marked(twice[1::2], 5) == behind and set(marks(twice[1::2])) == {5, 6} and twice[-1].used == 0
+    return behind
+
+
+@says("a record that is written between a session's two ends is half-closed by the last of them, and stays",
+      "finds room at last (mark 4 before), becomes unsafe since a further mover stands by, loses its mover, or lives through a restart",
+      "A later session with the same key is led by it, with mark 1, and loses it at its first end already",
+      "A front end that sends the last end twice leaves none behind (tested): the further one gets mark 5 there, and else mark 6",
+      "a record that they get anew is [left behind](#sessions-that-close-one-side-first) at their last end")
+def left_behind():
+    assert left(roster(WORK, []), add_horizon(9)) == {i for i, k in enumerate(K) if taken(k, choice(k, WORK), [9])}
+    at3 = {i for i, k in enumerate(K) if choice(k, WORK) == 3}
+    assert left(roster(WORK, STAND), remove_working(3)) == at3
+    # no room at first; then as many sessions end as wait for a place
+    first = full()[0]
+    waiting, gone = sorted(marked(first, 4)), sorted(marked(first, 3))
+    asking, theirs = packets(MANY[i] for i in waiting), ends(MANY[i] for i in waiting)
+    room = ends(MANY[i] for i in gone[-len(waiting):])
+    none, _, _, got, last, freed = full(theirs, room, room, asking, theirs, theirs)[1:]
+    assert marks(none) == [6] * len(waiting) and marks(got) == [3] * len(waiting)
+    assert marks(last) == [8] * len(waiting) and last[-1].used == PLACES
+    assert marks(freed) == [5] * len(waiting) and freed[-1].used == PLACES - len(waiting)
+    # a restart after the first ends
+    recorded = marked(run(roster(WORK, STAND), P)[1], 3)
+    last = run(roster(WORK, STAND), P, ends(K))[2]
+    assert marked(last, 8) == recorded and last[-1].used == len(recorded)
 
 
 # ---- movers that stop
@@ -468,10 +537,12 @@ def typing_errors():
         assert done.returncode == 1 and not done.stdout and done.stderr.startswith(b"not sent"), line
 
 
-@says("HRW, movers 7 and 9 stand by, 7 works, a packet, 9 joins, the packet again, 7 stops, the packet again, the session ends")
+@says("HRW, movers 7 and 9 stand by, 7 works, a packet, one side closes, 9 joins, the packet again, the other side closes, 7 stops, "
+      "a packet of a new session with the same key")
 def example():
-    want = ([streams.with_settings(1, 0)] + add_horizon(7, 9) + add_working(7) + packets([ONE]) + add_working(9) + packets([ONE])
-            + remove_working(7) + packets([ONE]) + ends([ONE]))
+    want = ([streams.with_settings(1, 0)] + add_horizon(7, 9) + add_working(7) + packets([ONE]) + ends([ONE]) + add_working(9) + packets([ONE])
+            + ends([ONE]) + remove_working(7) + packets([ONE]))
+    assert marks(line for line in run(want)[0] if line.kind < 3) == [3, 8, 1, 5, 2]
     assert EXAMPLE.rstrip().endswith("| ./jet explain")
     assert sh(FUNCTIONS + EXAMPLE.replace("./jet explain", "cat"), HERE) == b"".join(want)
 
@@ -522,6 +593,43 @@ def commands(folder, lines):
     want.update("mark %d" % line.mark for line in last if line.mark)
     got = sh(FUNCTIONS + "look", folder).decode().splitlines()
     assert sorted(got) == sorted(["%s: %d" % pair for pair in want.items()] + ["used now: %d" % last[-1].used]), got
+
+
+@says("Marks 8 less marks 5 is the number of half-closed records", "too high once a mover stopped, whose records went without an end",
+      "for each session with a half-closed record of which nothing came among the last 100,000 events", "Each frees its place")
+def half_closed_records():
+    """The page's count, list and ends for half-closed records, on a day before and after movers stopped."""
+    morning = roster(WORK, STAND) + P[:600] + ends(K[:300:3] + K[:300:6]) + add_working(9) + P + ends(K[::7]) + P[:200]
+    evening = remove_working(2, 9) + P[500:] + ends(K[::5]) + [bytes([4]) + bytes(15)] + P[::9]
+    for day, stopped in ((morning, False), (morning + evening, True)):
+        lines = run(day)[0]
+        records, half = {}, {}
+        for event, line in zip(day, lines):
+            k = event[3:]
+            if line.mark == 3:
+                records[k] = line.server
+            elif line.mark == 5:
+                del records[k], half[k]
+            elif line.kind == model.REMOVE_WORKING and not line.refusal:
+                gone = {other for other, s in records.items() if s == model.event_server(event)}
+                records, half = ({other: x for other, x in one.items() if other not in gone} for one in (records, half))
+            if line.mark == 8 or line.mark == 1 and k in half:
+                half[k] = line.event
+        with tempfile.TemporaryDirectory() as folder:
+            answers = "".join("%d %d %d %d %d %d %d\n" % line for line in lines)
+            for name, text in (("kept", b"".join(day + P[:3]) + bytes(5)), ("answers", answers.encode())):     # three and a bit aren't answered yet
+                with open(os.path.join(folder, name), "wb") as out:
+                    out.write(text)
+            number = int(sh(command("awk '$5 == 8"), folder))
+            assert half and (number > len(half) if stopped else number == len(half))
+            for n in ("", "0", "1", "200", "700", str(len(day))):
+                typed = [command("half_closed").replace("100000", n), command(". ./over").replace(">&3", "")]
+                sent = session.split(sh(FUNCTIONS + "\n".join(typed), folder))
+                want = {k for k, heard in half.items() if heard <= len(day) - int(n or 0)}
+                assert sorted(sent) == sorted(ends(want)), "half_closed %s" % n
+                freed = run(day, sent)[1]
+                assert [(line.mark, line.used) for line in freed] == [(5, lines[-1].used - i) for i in range(1, len(sent) + 1)]
+            assert len(day) > 700 and not want, "the last number leaves nobody"
 
 
 @says("Fill up: head -c $((16 - $(wc -c <kept) % 16)) /dev/zero >&3")
