@@ -4,10 +4,10 @@ use mathlib.Core.Bool.{Bool, true, false}
 use mathlib.Core.List.{List}
 use mathlib.Core.Path.{_≡_, refl, _∙_}
 use native.Mathlib.Omega.{arith}
-use lib.ListN.{getD, take, drop}
+use lib.ListN.{length, getD, take, drop}
 use Rattle.spans.specs.Spans.{same}
 use Rattle.table.specs.Table.{usedTag, usedPart, room, find}
-use Rattle.table.specs.Searching.{findFrom, Spelt, Words, PassedBy}
+use Rattle.table.specs.Searching.{findFrom, Spelt, Answers, Words, PassedBy, StoppedAt, Reached}
 use Rattle.table.proofs.Keys.{spelt-same}
 use Rattle.table.proofs.Places.{find-stop, find-here, find-more, find-end}
 
@@ -69,3 +69,26 @@ come-fours t i front back at c h p =
     let c₂ : Come t i front back (at + 40) = rw n₁ at (come-past t i front back (at + 20) c₁ (omega arith) (p .1)) in
     let c₃ : Come t i front back (at + 60) = rw n₂ at (come-past t i front back (at + 40) c₂ (omega arith) (p .2)) in
     rw n₃ at (come-past t i front back (at + 60) c₃ (omega arith) (p .3))
+
+-- where the search has come to, as an index
+module _ (t : List ℕ) (i front back at : ℕ) (c : Come t i front back at) where
+  pub come-reached : at ≤ length t → Reached t i front back (at / 20)
+  come-reached h = record { within = omega (arith, c .whole); so = c .so }
+
+  pub come-stopped : StoppedAt t at front back → StoppedAt t (at / 20 * 20) front back
+  come-stopped s = let e : at / 20 * 20 ≡ at = omega (arith, c .whole) in rw e s
+
+-- what a search that has come to an index and goes no further tells
+module _ (t : List ℕ) (i front back r : ℕ) (q : Reached t i front back r) where
+  pub reached-end : room t ≤ r → Answers t i front back (record { found = false; reads = r })
+  reached-end h key k = find-end t r h key _ (q .so key k)
+
+  module _ (within : r < room t) where
+    pub reached-stop : usedTag (getD t (r * 20 + 13) 0) ≡ false → Answers t i front back (record { found = false; reads = r })
+    reached-stop tag key k = find-stop t r within key _ (q .so key k) tag
+
+    pub reached-here : usedTag (getD t (r * 20 + 13) 0) ≡ true → StoppedAt t (r * 20) front back
+        → Answers t i front back (record { found = true; reads = r + 1 })
+    reached-here tag s key k =
+        let w = s tag in
+        find-here t r within key _ (q .so key k) tag (spelt-same t key (r * 20) front back true k (omega arith) (w .1 .0) (w .1 .1) (w .0))

@@ -61,7 +61,7 @@ pub fn used(table: &[u8]) -> usize
 }
 
 // The first used record with a key. The records before the first half-closed one are passed here, where one tag is asked for: that is one
-// comparison. From there on `search::find_on` asks for both. The loop counts bytes, and only its end counts records: so it has one number
+// comparison. From there on `search::pass` asks for both. The loop counts bytes, and only its end counts records: so it has one number
 // to carry.
 pub fn find(table: &[u8], key: [u8; KEY_BYTES]) -> Found
     ensures { λ r. ⌜ findingOf r ≡ find-of key (now (table .entry)) ⌝ }
@@ -79,7 +79,7 @@ pub fn find(table: &[u8], key: [u8; KEY_BYTES]) -> Found
         }
         at += RECORD_BYTES;
     }
-    search::find_on(table, at / RECORD_BYTES, front, back)
+    find_on(table, at / RECORD_BYTES, front, back)
 }
 
 // The server that the record at a place names, 0 where there is no such place.
@@ -195,7 +195,22 @@ fn find_behind(table: &[u8], i: usize, front: u64, back: u64) -> Found
     if !used_tag(table[i * RECORD_BYTES + TAG_OFFSET]) {
         return Found::Nothing(i);
     }
-    search::find_on(table, i, front, back)
+    find_on(table, i, front, back)
+}
+
+// The search from index i on, whatever the tags: where it stops at a used record, that is the key's.
+fn find_on(table: &[u8], i: usize, front: u64, back: u64) -> Found
+    requires { ⌜ i * recordBytes ≤ length (now table) ⌝ }
+    ensures { λ r. ⌜ Answers (now (table .entry)) i front back (findingOf r) ⌝ }
+{
+    let n = search::pass(table, i, front, back);
+    if table.len() / RECORD_BYTES <= n {
+        return Found::Nothing(n);
+    }
+    if used_tag(table[n * RECORD_BYTES + TAG_OFFSET]) {
+        return Found::At(n + 1);
+    }
+    Found::Nothing(n)
 }
 
 // Copies a key to the front of a span.

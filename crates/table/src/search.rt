@@ -1,30 +1,29 @@
 // The search for a key's record among records of which some are half-closed. A key is compared by two words of eight bytes.
-use crate::Found;
 use crate::RECORD_BYTES;
 use crate::TAG_OFFSET;
 ghost use mathlib.Core.Path.{_≡_};
-ghost use mathlib.Core.Bool.{true};
-ghost use mathlib.Core.List.{List};
-ghost use Prim.Native.Nat.{ℕ, _+_, _*_, _≤_};
+ghost use mathlib.Core.Bool.{true, false};
+ghost use Prim.Native.Nat.{_+_, _*_, _≤_};
 ghost use lib.ListN.{length};
 ghost use Rattle.words.specs.Words.{wordAt, BytesAt};
-ghost use Rattle.table.specs.Table.{findingOf, recordBytes, keyBytes};
-ghost use Rattle.table.specs.Searching.{findFrom, Spelt, Answers, Words, PassedBy};
+ghost use Rattle.table.specs.Table.{recordBytes, keyBytes};
+ghost use Rattle.table.specs.Searching.{Words, PassedBy, StoppedAt, Reached};
 
-// The first used record with a key's two words from index i on, counted from 0.
-pub(crate) fn find_on(table: &[u8], i: usize, front: u64, back: u64) -> Found
+// Passes used records without these two words from index i on, counted from 0, and says which index it has come to: that of the first that
+// has them or isn't used, or the table's end.
+pub(crate) fn pass(table: &[u8], i: usize, front: u64, back: u64) -> usize
     requires { ⌜ i * recordBytes ≤ length (now table) ⌝ }
-    ensures { λ r. ⌜ Answers (now (table .entry)) i front back (findingOf r) ⌝ }
+    ensures { λ r. ⌜ Reached (now (table .entry)) i front back r
+        × (r * recordBytes + recordBytes ≤ length (now (table .entry)) → StoppedAt (now (table .entry)) (r * recordBytes) front back) ⌝ }
 {
-    find_each(table, pass_fours(table, i, front, back), front, back)
+    pass_each(table, pass_fours(table, i, front, back), front, back)
 }
 
-// Passes records with other keys from index i on, four at a time, and says where it stopped: with one record at a time the loop's own
-// counting would be two fifths of the work.
+// Passes four records at a time, and says where it stopped: with one record at a time the loop's own counting would be two fifths of the
+// work.
 fn pass_fours(table: &[u8], i: usize, front: u64, back: u64) -> usize
     requires { ⌜ i * recordBytes ≤ length (now table) ⌝ }
-    ensures { λ r. ⌜ (r * recordBytes ≤ length (now (table .entry)))
-        × ((key : List ℕ) → Spelt key front back → findFrom (now (table .entry)) key r ≡ findFrom (now (table .entry)) key i) ⌝ }
+    ensures { λ r. ⌜ Reached (now (table .entry)) i front back r ⌝ }
 {
     let end = table.len() / RECORD_BYTES * RECORD_BYTES;
     let mut at = i * RECORD_BYTES;
@@ -37,23 +36,21 @@ fn pass_fours(table: &[u8], i: usize, front: u64, back: u64) -> usize
     at / RECORD_BYTES
 }
 
-// The same search one record at a time.
-fn find_each(table: &[u8], i: usize, front: u64, back: u64) -> Found
+// Passes one record at a time.
+fn pass_each(table: &[u8], i: usize, front: u64, back: u64) -> usize
     requires { ⌜ i * recordBytes ≤ length (now table) ⌝ }
-    ensures { λ r. ⌜ Answers (now (table .entry)) i front back (findingOf r) ⌝ }
+    ensures { λ r. ⌜ Reached (now (table .entry)) i front back r
+        × (r * recordBytes + recordBytes ≤ length (now (table .entry)) → StoppedAt (now (table .entry)) (r * recordBytes) front back) ⌝ }
 {
     let end = table.len() / RECORD_BYTES * RECORD_BYTES;
     let mut at = i * RECORD_BYTES;
     while at < end {
-        if !crate::used_tag(table[at + TAG_OFFSET]) {
-            return Found::Nothing(at / RECORD_BYTES);
-        }
-        if has_words(table, at, front, back) {
-            return Found::At(at / RECORD_BYTES + 1);
+        if !passes(table, at, front, back) {
+            return at / RECORD_BYTES;
         }
         at += RECORD_BYTES;
     }
-    Found::Nothing(at / RECORD_BYTES)
+    at / RECORD_BYTES
 }
 
 // Whether four records from a byte on are all used and have other keys than the one with these two words.
@@ -78,7 +75,8 @@ fn four_pass(table: &[u8], at: usize, front: u64, back: u64) -> bool
 // Whether the record from a byte on is used and has another key.
 fn passes(table: &[u8], at: usize, front: u64, back: u64) -> bool
     requires { ⌜ at + recordBytes ≤ length (now table) ⌝ }
-    ensures { λ r. ⌜ (r ≡ true → PassedBy (now (table .entry)) at front back) ⌝ }
+    ensures { λ r. ⌜ (r ≡ true → PassedBy (now (table .entry)) at front back)
+        × (r ≡ false → StoppedAt (now (table .entry)) at front back) ⌝ }
 {
     if !crate::used_tag(table[at + TAG_OFFSET]) {
         return false;

@@ -48,10 +48,10 @@ returns-4 c =
     let i₃ = c .before in
     let i₂ = i₃ .before .before in
     let i₁ = i₂ .before .before in (
-      i₁ .before .passes .ensures (not-false _ (i₁ .if1 .left)),
-      i₂ .before .passes2 .ensures (not-false _ (i₂ .if2 .left)),
-      i₃ .before .passes3 .ensures (not-false _ (i₃ .if3 .left)),
-      c .passes4 .ensures e,
+      i₁ .before .passes .ensures .0 (not-false _ (i₁ .if1 .left)),
+      i₂ .before .passes2 .ensures .0 (not-false _ (i₂ .if2 .left)),
+      i₃ .before .passes3 .ensures .0 (not-false _ (i₃ .if3 .left)),
+      c .passes4 .ensures .0 e,
     )
 
 pub four-pass-spec : {M : Type 1} → statement M

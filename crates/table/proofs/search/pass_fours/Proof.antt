@@ -2,7 +2,7 @@
 use Prim.Native.Nat.{_≤_, _-_}
 use native.Mathlib.Omega.{arith}
 use borrow.Author.Tests.{not-false}
-use Rattle.table.proofs.Searching.{Come, come-first, come-fours}
+use Rattle.table.proofs.Searching.{Come, come-first, come-fours, come-reached}
 use borrow.Author.Needs.{needs}
 use Rattle.table.proofs.search.pass_fours.Statement.{statement}
 use Rattle.table.proofs.search.pass_fours.Tie as tie
@@ -36,7 +36,8 @@ four-pass-requires c κs = search needs
 returns : tie.Need-returns Inv-loop μ-loop
 returns c =
     let l = c .before .before .before in
-    (omega arith, l .loop .inv .1 .so)
+    let p = l .before .before .args in
+    come-reached (p .table .now) (p .i) _ _ (l .loop .at) (l .loop .inv .1) (omega arith)
 
 mul-at-2 : tie.Need-mul-at-2 Inv-loop μ-loop
 mul-at-2 c = search needs
@@ -56,7 +57,8 @@ loop-again c =
 returns-2 : tie.Need-returns-2 Inv-loop μ-loop
 returns-2 c =
     let l = c .before in
-    (omega arith, l .loop .inv .1 .so)
+    let p = l .before .before .args in
+    come-reached (p .table .now) (p .i) _ _ (l .loop .at) (l .loop .inv .1) (omega arith)
 
 pub pass-fours-spec : {M : Type 1} → statement M
 pass-fours-spec =

@@ -16,20 +16,22 @@ used-tag-requires : tie.Need-used-tag-requires
 used-tag-requires c κs = search needs
 
 returns : tie.Need-returns
-returns c = λ e. clash e refl
+returns c = (λ e. clash e refl, λ _ u. clash u (sym (c .before .used-tag .ensures) ∙ not-true _ (c .if1 .taken)))
 
 has-words-requires : tie.Need-has-words-requires
 has-words-requires c κs = search needs
 
 returns-2 : tie.Need-returns-2
 returns-2 c =
-    λ e.
     let u = c .before in
-    let h = c .has-words .ensures in
-    record {
-      tag = sym (u .before .used-tag .ensures) ∙ not-false _ (u .if1 .left);
-      words = (sym (not-true _ e) ∙ h .0, h .1);
-    }
+    let h = c .has-words .ensures in (
+      λ e.
+          record {
+            tag = sym (u .before .used-tag .ensures) ∙ not-false _ (u .if1 .left);
+            words = (sym (not-true _ e) ∙ h .0, h .1);
+          },
+      λ e _. (sym (not-false _ e) ∙ h .0, h .1),
+    )
 
 pub passes-spec : {M : Type 1} → statement M
 passes-spec =
