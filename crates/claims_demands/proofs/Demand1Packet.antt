@@ -34,7 +34,7 @@ use Rattle.ringplan.proofs.Members.{some-member}
 use Rattle.rules.specs.Answer.{Answer, accepts}
 use Rattle.rules.specs.Rules.{World, Change, target, pickBy, packet, end}
 use Rattle.rules.proofs.Ends.{Ends, first, next, nothing, ends}
-use Rattle.claims_histories.proofs.HalfClosing.{tag-cases}
+use Rattle.table.proofs.HalfClosed.{tag-cases}
 use Rattle.claims_demands.specs.Causes.{kindIn, keyIn, HasKey, RecordAt, NoRecord, SomeOutranks, Given, byChoice, fromRing, fromRow, LedAstray, byRecord, byRow, byEntry}
 use Rattle.claims_demands.specs.Demand1.{safe, recorded, noRoom, known, chosen, first as first-end, next as next-end, nothing as no-record, MarkRight, packet as packet-event, end as end-event}
 use Rattle.claims_demands.proofs.Demand1Lent.{Tells, yes, no, tells-not, tells-eqb, told, denied}

@@ -12,12 +12,11 @@ use Rattle.sets.proofs.Cases.{clash}
 use Rattle.event.specs.Event.{allBytes, asksKey, eventIn}
 use Rattle.event.proofs.Reading.{end-reads}
 use Rattle.table.specs.Table.{Finding, usedPart, used, findAmong, find, tagAt, newRecord, without, removed, halfClosed}
-use Rattle.table.proofs.HalfClosed.{closedOnce, tag-used}
-use Rattle.table.proofs.Records.{used-removed}
+use Rattle.table.proofs.HalfClosed.{closedOnce, closedAt, used-closed, used-stays, find-closed}
+use Rattle.table.proofs.Records.{used-removed, tag-used}
 use Rattle.table.proofs.Finds.{found-from, found-first}
 use Rattle.rules.specs.Answer.{Answer}
 use Rattle.claims_histories.specs.Histories.{AllBytes}
-use Rattle.claims_histories.proofs.HalfClosing.{closedAt, used-closed, used-stays, find-closed}
 use Rattle.claims_demands.specs.Demands.{Engine, Demand2}
 use Rattle.claims_demands.proofs.Same.{first-end, next-end}
 use Rattle.claims_demands.proofs.Witness.{keyP, packetP, endP, waiting, joined-bytes, written-part, written-find}

@@ -15,12 +15,11 @@ use Rattle.sets.proofs.Cases.{both, clash, or-left}
 use Rattle.spans.specs.Spans.{same}
 use Rattle.spans.proofs.Scans.{same-equal}
 use Rattle.table.specs.Table.{keyOf, tagOf, serverOf, usedPart, used, room, Rec, recOf, entries, find, serverAt, tagAt, newRecord, appended, without, removed, halfClosed, notNaming, removedServer, noStray}
-use Rattle.table.proofs.HalfClosed.{closedOnce, once-key, once-server, once-tag, tag-used}
-use Rattle.table.proofs.Records.{used-record, server-used, used-removed, used-removedServer, new-back}
+use Rattle.table.proofs.HalfClosed.{closedOnce, once-key, once-server, once-tag, closedAt, used-closed}
+use Rattle.table.proofs.Records.{used-record, server-used, used-removed, used-removedServer, new-back, tag-used}
 use Rattle.table.proofs.Finds.{First, missing-none, found-from, found-within, found-first}
 use Rattle.table.proofs.Stray.{used-appended}
 use Rattle.claims_histories.specs.Histories.{recorded, Distinct}
-use Rattle.claims_histories.proofs.HalfClosing.{closedAt, used-closed}
 
 -- ---- records as a list
 

@@ -20,7 +20,7 @@ use Rattle.rules.specs.Answer.{Answer, accepts, refuses}
 use Rattle.rules.specs.Rules.{World, Change, Done}
 use Rattle.rules.proofs.Ends.{first, next, nothing}
 use Rattle.claims_histories.specs.Histories.{startAccepted, after, answer, AllBytes}
-use Rattle.claims_histories.proofs.HalfClosing.{tag-cases}
+use Rattle.table.proofs.HalfClosed.{tag-cases}
 use Rattle.claims_histories.proofs.Inner.{Inner}
 use Rattle.claims_histories.proofs.Picking.{pickAt}
 use Rattle.claims_histories.proofs.Along.{event-judged, inner}

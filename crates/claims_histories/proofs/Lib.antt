@@ -2,7 +2,6 @@ pub mod Meaning
 pub mod Sizes
 pub mod Refusals
 pub mod Recorded
-pub mod HalfClosing
 pub mod Drawing
 pub mod Inner
 pub mod Picking

@@ -2,7 +2,7 @@
 use Prim.Native.Nat.{ℕ, zero, suc, _<_}
 use mathlib.Core.Bool.{true, false}
 use mathlib.Core.List.{List, [], _∷_, _++_, map}
-use mathlib.Core.Path.{_≡_, refl}
+use mathlib.Core.Path.{_≡_, refl, _∙_}
 use native.Mathlib.Nat.{not-suc-le-zero, le-of-suc-le-suc}
 use native.Mathlib.Omega.{arith}
 use lib.Dec.{eqb}
@@ -12,6 +12,7 @@ use Rattle.spans.specs.Spans.{same}
 use Rattle.spans.proofs.Scans.{same-equal, same-self}
 use Rattle.roster.specs.declared.Roster.{Roster}
 use Rattle.roster.specs.Roster.{stateOf, working}
+use Rattle.table.proofs.HalfClosed.{once-key, once-server, closedAt}
 use Rattle.table.specs.Table.{keyOf, serverOf, Rec, recOf, without, notNaming}
 use Rattle.claims_histories.specs.Histories.{recorded, Distinct, AllWorking}
 
@@ -119,3 +120,23 @@ named-notNaming r r′ s (x ∷ rs) f a =
     (eqb (serverOf x) s)
     (λ u. rw u (named-notNaming r r′ s rs f (a .1)))
     (λ u. rw u (f (serverOf x) u (a .0), named-notNaming r r′ s rs f (a .1)))
+
+-- a record half-closed: its key stays, and so does its server
+recorded-closed : (key : List ℕ) (place : ℕ) (rs : List (List ℕ))
+    → recorded key (map recOf (closedAt place rs)) ≡ recorded key (map recOf rs)
+recorded-closed key zero rs = refl
+recorded-closed key (suc i) [] = refl
+recorded-closed key (suc zero) (r ∷ rs) = rw (once-key r)
+recorded-closed key (suc (suc i)) (r ∷ rs) = rw (recorded-closed key (suc i) rs)
+
+pub distinct-closed : (place : ℕ) (rs : List (List ℕ)) → Distinct (map recOf rs) → Distinct (map recOf (closedAt place rs))
+distinct-closed zero rs d = d
+distinct-closed (suc i) [] d = tt
+distinct-closed (suc zero) (r ∷ rs) d = (rw (once-key r) (d .0), d .1)
+distinct-closed (suc (suc i)) (r ∷ rs) d = (recorded-closed (keyOf r) (suc i) rs ∙ d .0, distinct-closed (suc i) rs (d .1))
+
+pub named-closed : (r : Roster) (place : ℕ) (rs : List (List ℕ)) → AllWorking r (map recOf rs) → AllWorking r (map recOf (closedAt place rs))
+named-closed r zero rs a = a
+named-closed r (suc i) [] a = tt
+named-closed r (suc zero) (x ∷ rs) a = (rw (once-server x) (a .0), a .1)
+named-closed r (suc (suc i)) (x ∷ rs) a = (a .0, named-closed r (suc i) rs (a .1))

@@ -1,8 +1,9 @@
 -- A half-closed record: its tag is 2 and all else of it, and of the table, is as it was. For callers: what becomes of the used part and of the
 -- table's length; of any table.
 use Prim.Native.Nat.{ℕ, zero, suc, _+_, _*_, _-_, _<_, _≤_}
+use mathlib.Core.Bool.{true}
 use mathlib.Core.List.{List, [], _∷_, _++_, append-assoc}
-use mathlib.Core.Logic.{_≢_}
+use mathlib.Core.Logic.{_≢_, _⊎_, inl, inr, ⊎-elim}
 use mathlib.Core.Path.{_≡_, refl, sym, ap, _∙_}
 use native.Mathlib.Nat.{not-suc-le-zero, le-of-suc-le-suc}
 use native.Mathlib.Omega.{arith}
@@ -11,9 +12,11 @@ use lib.ListN.{length, getD, set, take, drop, length-set}
 use lib.Seq.{set-append-left, getD-set-same, getD-set-other}
 use borrow.Author.Tests.{ltb-true, ltb-false, lt-ltb, le-ltb}
 use Rattle.sets.proofs.Cases.{both}
-use Rattle.table.specs.Table.{keyOf, tagOf, serverOf, usedTag, halfClosedTag, tagOffset, usedPart, used, bytesOf, packed, halfClosed, noStray}
-use Rattle.table.proofs.Parts.{Each, Sized, Tagged, each-at, used-sized, used-tagged, used-whole}
-use Rattle.table.proofs.Packing.{packed-used, packed-stray}
+use Rattle.table.specs.Table.{keyOf, tagOf, serverOf, halfClosedTag, tagOffset, usedPart, used, findAmong, find, tagAt, bytesOf, packed, halfClosed, noStray}
+use Rattle.table.proofs.Parts.{Each, Sized, Tagged, used-tags, tags-are, used-sized, used-tagged, used-whole}
+use Rattle.table.proofs.Packing.{packed-same, packed-length, packed-used, packed-stray}
+use Rattle.table.proofs.Records.{used-record, tag-used}
+use Rattle.table.proofs.Finds.{found-from, found-within, found-first}
 
 -- ---- one record
 
@@ -50,9 +53,39 @@ set-behind (x ∷ xs) ys (suc n) i a e =
     let s : suc n + i ≡ suc (n + i) = omega arith in
     rw s (ap (λ (l : List ℕ). x ∷ l) (set-behind xs ys n i a (omega arith)))
 
+-- the list whose record at a place, counted from 1, is half-closed
+abbrev pub closedAt : ℕ → List (List ℕ) → List (List ℕ)
+closedAt zero rs = rs
+closedAt (suc i) [] = []
+closedAt (suc zero) (r ∷ rs) = closedOnce r ∷ rs
+closedAt (suc (suc i)) (r ∷ rs) = r ∷ closedAt (suc i) rs
+
+closed-out : (i : ℕ) (rs : List (List ℕ)) → length rs ≤ i → closedAt (suc i) rs ≡ rs
+closed-out i [] h = refl
+closed-out zero (r ∷ rs) h = absurd (not-suc-le-zero h)
+closed-out (suc i) (r ∷ rs) h = ap (λ (l : List (List ℕ)). r ∷ l) (closed-out i rs (le-of-suc-le-suc h))
+
+closed-length : (place : ℕ) (rs : List (List ℕ)) → length (closedAt place rs) ≡ length rs
+closed-length zero rs = refl
+closed-length (suc i) [] = refl
+closed-length (suc zero) (r ∷ rs) = refl
+closed-length (suc (suc i)) (r ∷ rs) = ap suc (closed-length (suc i) rs)
+
+closed-sized : (place : ℕ) (rs : List (List ℕ)) → Each Sized rs → Each Sized (closedAt place rs)
+closed-sized zero rs e = e
+closed-sized (suc i) [] e = tt
+closed-sized (suc zero) (r ∷ rs) e = (length-set r 13 2 ∙ e .0, e .1)
+closed-sized (suc (suc i)) (r ∷ rs) e = (e .0, closed-sized (suc i) rs (e .1))
+
+closed-tagged : (place : ℕ) (rs : List (List ℕ)) → Each Sized rs → Each Tagged rs → Each Tagged (closedAt place rs)
+closed-tagged zero rs e f = f
+closed-tagged (suc i) [] e f = tt
+closed-tagged (suc zero) (r ∷ rs) e f = (tags-are _ (inr (once-tag r (e .0))), f .1)
+closed-tagged (suc (suc i)) (r ∷ rs) e f = (f .0, closed-tagged (suc i) rs (e .1) (f .1))
+
 -- the tag's byte in the bytes of records is the tag of one of them
 set-record : (rs : List (List ℕ)) (rest : List ℕ) (i : ℕ) → Each Sized rs → i < length rs
-    → set (bytesOf rs ++ rest) (i * 20 + 13) 2 ≡ bytesOf (set rs i (closedOnce (getD rs i []))) ++ rest
+    → set (bytesOf rs ++ rest) (i * 20 + 13) 2 ≡ bytesOf (closedAt (suc i) rs) ++ rest
 unfolding bytesOf
 set-record [] rest i e h = absurd (not-suc-le-zero h)
 set-record (r ∷ rs) rest zero e h =
@@ -60,15 +93,9 @@ set-record (r ∷ rs) rest zero e h =
     (set-append-left r (bytesOf rs ++ rest) 13 2 (let n : length r ≡ 20 = e .0 in omega arith))
 set-record (r ∷ rs) rest (suc i) e h =
     let n : suc i * 20 + 13 ≡ 20 + (i * 20 + 13) = omega arith in
-    rw (n, append-assoc r (bytesOf rs) rest, append-assoc r (bytesOf (set rs i (closedOnce (getD rs i [])))) rest)
+    rw (n, append-assoc r (bytesOf rs) rest, append-assoc r (bytesOf (closedAt (suc i) rs)) rest)
     (set-behind r (bytesOf rs ++ rest) 20 (i * 20 + 13) 2 (e .0)
     ∙ ap (λ (l : List ℕ). r ++ l) (set-record rs rest i (e .1) (le-of-suc-le-suc h)))
-
--- what holds of every record goes on holding of them when one of them is half-closed
-set-each : (P : List ℕ → Type 0) (rs : List (List ℕ)) (i : ℕ) (r : List ℕ) → Each P rs → P r → Each P (set rs i r)
-set-each P [] i r e p = tt
-set-each P (x ∷ rs) zero r e p = (p, e .1)
-set-each P (x ∷ rs) (suc i) r e p = (e .0, set-each P rs i r (e .1) p)
 
 -- a place outside the used part
 pub half-none : (t : List ℕ) → t ≡ halfClosed 0 t
@@ -87,44 +114,56 @@ half-in t zero a n h e = absurd (n refl)
 half-in t (suc i) a n h e = let q : a ≡ i * 20 + 13 = omega arith in rw (lt-ltb i (used t) h, q)
 
 -- the table has the used part with that record half-closed, and later bytes stay
-half-packed : (t : List ℕ) (i : ℕ) → i < used t
-    → halfClosed (suc i) t ≡ packed (set (usedPart t) i (closedOnce (getD (usedPart t) i []))) t
+packed-in : (t : List ℕ) (i : ℕ) → i < used t → halfClosed (suc i) t ≡ packed (closedAt (suc i) (usedPart t)) t
 unfolding halfClosed packed
-half-packed t i h =
+packed-in t i h =
     let rs = usedPart t in
-    let rest = drop (used t * 20) t in
-    let n : (used t - length (set rs i (closedOnce (getD rs i [])))) * 20 ≡ 0 = omega (arith, length-set rs i (closedOnce (getD rs i []))) in
-    rw (lt-ltb i (used t) h, n) (ap (λ (l : List ℕ). set l (i * 20 + 13) 2) (sym (used-whole t)) ∙ set-record rs rest i (used-sized t) h)
+    let n : (used t - length (closedAt (suc i) rs)) * 20 ≡ 0 = omega (arith, closed-length (suc i) rs) in
+    rw (lt-ltb i (used t) h, n)
+    (ap (λ (l : List ℕ). set l (i * 20 + 13) 2) (sym (used-whole t)) ∙ set-record rs (drop (used t * 20) t) i (used-sized t) h)
 
-module _ (t : List ℕ) (i : ℕ) (h : i < used t) where
-  once-sized : Each Sized (set (usedPart t) i (closedOnce (getD (usedPart t) i [])))
-  once-sized =
-      let r = getD (usedPart t) i [] in
-      set-each Sized (usedPart t) i (closedOnce r) (used-sized t) (length-set r 13 2 ∙ each-at Sized (usedPart t) (used-sized t) i h)
+half-packed : (t : List ℕ) (place : ℕ) → halfClosed place t ≡ packed (closedAt place (usedPart t)) t
+half-packed t zero = sym (half-none t) ∙ sym (packed-same t)
+half-packed t (suc i) =
+    both (ltb i (used t)) (λ e. packed-in t i (ltb-true i (used t) e)) (λ e.
+    let out : used t ≤ i = ltb-false i (used t) e in
+    sym (half-out t (suc i) (omega arith)) ∙ sym (packed-same t) ∙ ap (λ (l : List (List ℕ)). packed l t) (sym (closed-out i (usedPart t) out)))
 
-  once-tagged : Each Tagged (set (usedPart t) i (closedOnce (getD (usedPart t) i [])))
-  unfolding usedTag
-  once-tagged =
-      let r = getD (usedPart t) i [] in
-      set-each Tagged (usedPart t) i (closedOnce r) (used-tagged t)
-      (ap usedTag (once-tag r (each-at Sized (usedPart t) (used-sized t) i h)))
+module _ (t : List ℕ) (place : ℕ) where
+  sized : Each Sized (closedAt place (usedPart t))
+  sized = closed-sized place (usedPart t) (used-sized t)
 
-  -- the used part has that record half-closed, and is as long as before
-  pub used-half : usedPart (halfClosed (suc i) t) ≡ set (usedPart t) i (closedOnce (getD (usedPart t) i []))
-  used-half = rw (half-packed t i h) (packed-used (set (usedPart t) i (closedOnce (getD (usedPart t) i []))) t once-sized once-tagged)
+  tagged : Each Tagged (closedAt place (usedPart t))
+  tagged = closed-tagged place (usedPart t) (used-sized t) (used-tagged t)
 
-  clean-in : noStray (halfClosed (suc i) t) ≡ noStray t
-  clean-in = rw (half-packed t i h) (packed-stray (set (usedPart t) i (closedOnce (getD (usedPart t) i []))) t once-sized once-tagged)
+  -- the used part, which is as long as before; the table's length; and what stands behind the used part
+  pub used-closed : usedPart (halfClosed place t) ≡ closedAt place (usedPart t)
+  used-closed = rw (half-packed t place) (packed-used (closedAt place (usedPart t)) t sized tagged)
 
--- the table's length, and what stands behind the used part
-pub length-half : (t : List ℕ) (place : ℕ) → length (halfClosed place t) ≡ length t
-unfolding halfClosed
-length-half t zero = refl
-length-half t (suc i) = both (ltb i (used t)) (λ e. rw e (length-set t (i * 20 + 13) 2)) (λ e. rw e)
+  pub used-stays : used (halfClosed place t) ≡ used t
+  used-stays = ap length used-closed ∙ closed-length place (usedPart t)
 
-pub clean-half : (t : List ℕ) (place : ℕ) → noStray (halfClosed place t) ≡ noStray t
-clean-half t zero = rw (← (half-none t))
-clean-half t (suc i) =
-    both (ltb i (used t)) (λ e. clean-in t i (ltb-true i (used t) e)) (λ e.
-    let out : used t < suc i = omega (arith, ltb-false i (used t) e) in
-    rw (← (half-out t (suc i) out)))
+  pub length-half : length (halfClosed place t) ≡ length t
+  length-half =
+      rw (half-packed t place) (packed-length (closedAt place (usedPart t)) t sized (omega (arith, closed-length place (usedPart t))))
+
+  pub clean-half : noStray (halfClosed place t) ≡ noStray t
+  clean-half = rw (half-packed t place) (packed-stray (closedAt place (usedPart t)) t sized tagged)
+
+-- a reader finds in it what it found
+among-closed : (key : List ℕ) (passed place : ℕ) (rs : List (List ℕ)) → findAmong key passed (closedAt place rs) ≡ findAmong key passed rs
+unfolding findAmong
+among-closed key passed zero rs = refl
+among-closed key passed (suc i) [] = refl
+among-closed key passed (suc zero) (r ∷ rs) = rw (once-key r)
+among-closed key passed (suc (suc i)) (r ∷ rs) = rw (among-closed key (passed + 1) (suc i) rs)
+
+pub find-closed : (key t : List ℕ) (place : ℕ) → find key (halfClosed place t) ≡ find key t
+unfolding find
+find-closed key t place = ap (findAmong key 0) (used-closed t place) ∙ among-closed key 0 place (usedPart t)
+
+-- a key's record has tag 1 or 2
+pub tag-cases : (key t : List ℕ) → find key t .found ≡ true → (tagAt (find key t .reads) t ≡ 1) ⊎ (tagAt (find key t .reads) t ≡ 2)
+tag-cases key t f =
+    let q = tag-used t (find key t .reads) (found-from key t f) (found-within key t f) in
+    ⊎-elim (λ one. inl (q ∙ one)) (λ two. inr (q ∙ two)) (used-tags _ (used-record t _ (found-first key t f .within) .1))

@@ -6,8 +6,8 @@ pub mod Parts
 pub mod Packing
 pub mod Removals
 pub mod Records
-pub mod HalfClosed
 pub mod Finds
+pub mod HalfClosed
 pub mod Stray
 pub mod InBytes
 pub mod Unique

@@ -18,10 +18,11 @@ from-first t key = refl
 -- the search from index i on has come to a byte where a record begins: looking from there on gives the whole answer, whichever key has these two words
 pub record Come (t : List ℕ) (i front back at : ℕ) : Type 0 where
   pub whole : at % 20 ≡ 0
+  pub onward : i * 20 ≤ at
   pub so : (key : List ℕ) → Spelt key front back → findFrom t key (at / 20) ≡ findFrom t key i
 
 pub come-first : (t : List ℕ) (i front back : ℕ) → Come t i front back (i * 20)
-come-first t i front back = let e : i * 20 / 20 ≡ i = omega arith in record { whole = omega arith; so = λ key k. rw e }
+come-first t i front back = let e : i * 20 / 20 ≡ i = omega arith in record { whole = omega arith; onward = omega arith; so = λ key k. rw e }
 
 module _ (t : List ℕ) (i front back at : ℕ) (c : Come t i front back at) where
   -- no record is left
@@ -50,6 +51,7 @@ module _ (t : List ℕ) (i front back at : ℕ) (c : Come t i front back at) whe
           let next : (at + 20) / 20 ≡ at / 20 + 1 = omega arith in
           record {
             whole = omega (arith, c .whole);
+            onward = omega (arith, c .onward);
             so = λ key k. rw next (find-more t (at / 20) within key _ (c .so key k) (rw here tag) (told key k ∙ e));
           }
 
@@ -73,7 +75,7 @@ come-fours t i front back at c h p =
 -- where the search has come to, as an index
 module _ (t : List ℕ) (i front back at : ℕ) (c : Come t i front back at) where
   pub come-reached : at ≤ length t → Reached t i front back (at / 20)
-  come-reached h = record { within = omega (arith, c .whole); so = c .so }
+  come-reached h = record { onward = omega (arith, c .onward); within = omega (arith, c .whole); so = c .so }
 
   pub come-stopped : StoppedAt t at front back → StoppedAt t (at / 20 * 20) front back
   come-stopped s = let e : at / 20 * 20 ≡ at = omega (arith, c .whole) in rw e s

@@ -39,5 +39,6 @@ StoppedAt t at front back = usedTag (getD t (at + tagOffset) 0) ≡ true → Wor
 
 -- from index i on the search has come to index r, for whichever key has these two words
 pub record Reached (t : List ℕ) (i front back r : ℕ) : Type 0 where
+  pub onward : i ≤ r
   pub within : r * recordBytes ≤ length t
   pub so : (key : List ℕ) → Spelt key front back → findFrom t key r ≡ findFrom t key i

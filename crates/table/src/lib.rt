@@ -61,8 +61,8 @@ pub fn used(table: &[u8]) -> usize
 }
 
 // The first used record with a key. The records before the first half-closed one are passed here, where one tag is asked for: that is one
-// comparison. From there on `search::pass` asks for both. The loop counts bytes, and only its end counts records: so it has one number
-// to carry.
+// comparison. From there on `search::pass` asks for both; asked at the table's end as well, it is compiled by itself, and this loop keeps its
+// registers. The loop counts bytes, and only its end counts records: so it has one number to carry.
 pub fn find(table: &[u8], key: [u8; KEY_BYTES]) -> Found
     ensures { λ r. ⌜ findingOf r ≡ find-of key (now (table .entry)) ⌝ }
 {
@@ -79,7 +79,7 @@ pub fn find(table: &[u8], key: [u8; KEY_BYTES]) -> Found
         }
         at += RECORD_BYTES;
     }
-    find_on(table, at / RECORD_BYTES, front, back)
+    Found::Nothing(search::pass(table, at / RECORD_BYTES, front, back))
 }
 
 // The server that the record at a place names, 0 where there is no such place.
@@ -187,7 +187,7 @@ pub(crate) fn used_tag(tag: u8) -> bool
 }
 
 // The search from the record with index i on, counted from 0, whose tag isn't 1. That it isn't used is told at once: so ends every search
-// in vain of a table in which no record is half-closed.
+// in vain of a table in which no record is half-closed. Where the search stops at a used record, that is the key's.
 fn find_behind(table: &[u8], i: usize, front: u64, back: u64) -> Found
     requires { ⌜ i * recordBytes + recordBytes ≤ length (now table) ⌝ }
     ensures { λ r. ⌜ Answers (now (table .entry)) i front back (findingOf r) ⌝ }
@@ -195,14 +195,6 @@ fn find_behind(table: &[u8], i: usize, front: u64, back: u64) -> Found
     if !used_tag(table[i * RECORD_BYTES + TAG_OFFSET]) {
         return Found::Nothing(i);
     }
-    find_on(table, i, front, back)
-}
-
-// The search from index i on, whatever the tags: where it stops at a used record, that is the key's.
-fn find_on(table: &[u8], i: usize, front: u64, back: u64) -> Found
-    requires { ⌜ i * recordBytes ≤ length (now table) ⌝ }
-    ensures { λ r. ⌜ Answers (now (table .entry)) i front back (findingOf r) ⌝ }
-{
     let n = search::pass(table, i, front, back);
     if table.len() / RECORD_BYTES <= n {
         return Found::Nothing(n);

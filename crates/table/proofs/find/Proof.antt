@@ -7,7 +7,7 @@ use lib.ListN.{getD}
 use Rattle.table.specs.Table.{find, Finding}
 use Rattle.table.specs.Searching.{Spelt, Answers}
 use Rattle.table.proofs.Keys.{spells}
-use Rattle.table.proofs.Searching.{Come, from-first, come-first, come-here, come-on}
+use Rattle.table.proofs.Searching.{Come, from-first, come-first, come-here, come-on, reached-end}
 use Rattle.table.proofs.Parts.{tags-are}
 use borrow.Author.Needs.{needs}
 use Rattle.table.proofs.find.Statement.{statement}
@@ -94,11 +94,16 @@ loop-again c =
     let tag = tags-are (getD (p .table .now) (l .loop .at + 13) 0) (inl (omega (arith, u .if1 .left))) in
     (omega (arith, l .loop .inv .1 .whole), come-on (p .table .now) 0 _ _ (l .loop .at) (l .loop .inv .1) (omega arith) tag _ (c .before .has-words .ensures) (c .if2 .left))
 
-find-on-requires : tie.Need-find-on-requires Inv-loop μ-loop
-find-on-requires c κs = omega arith
+pass-requires : tie.Need-pass-requires Inv-loop μ-loop
+pass-requires c κs = omega arith
 
 returns-3 : tie.Need-returns-3 Inv-loop μ-loop
-returns-3 c = rest (c .before .before) _ (c .find-on .ensures)
+returns-3 c =
+    let l = c .before .before in
+    let w = l .before in
+    let p = w .before .before .before .before .before .args in
+    let q = c .pass .ensures .0 in
+    rest l _ (reached-end (p .table .now) (l .loop .at / 20) _ _ _ q (omega (arith, q .onward)))
 
 pub find-spec : {M : Type 1} → statement M
 find-spec =
@@ -122,5 +127,5 @@ find-spec =
     add-at
     loop-less
     loop-again
-    find-on-requires
+    pass-requires
     returns-3)
