@@ -1,12 +1,12 @@
 -- What the parts of the code's search for a key promise each other. No public promise cites these.
-use Prim.Native.Nat.{ℕ, _+_, _*_, _≤_}
-use mathlib.Core.Bool.{Bool, true, false, cond}
+use Prim.Native.Nat.{ℕ, _+_}
+use mathlib.Core.Bool.{Bool, false, cond}
 use mathlib.Core.List.{List}
 use mathlib.Core.Path.{_≡_}
 use lib.Dec.{eqb}
-use lib.ListN.{length, getD, drop}
+use lib.ListN.{length, drop}
 use Rattle.words.specs.Words.{wordAt, BytesAt}
-use Rattle.table.specs.Table.{usedTag, recordBytes, tagOffset, recordsOf, usedAmong, Finding, findAmong}
+use Rattle.table.specs.Table.{recordsOf, usedAmong, Finding, findAmong}
 
 -- what looking for a key from an index on gives, counted from 0
 abbrev pub findFrom : List ℕ → List ℕ → ℕ → Finding
@@ -28,17 +28,3 @@ Answers t i front back f = (key : List ℕ) → Spelt key front back → f ≡ f
 abbrev pub Words : List ℕ → ℕ → ℕ → ℕ → Bool → Type 0
 Words t at front back r =
     (r ≡ cond (eqb (wordAt t (at + 5)) back) (eqb (wordAt t at) front) false) × (BytesAt t at 8 × BytesAt t (at + 5) 8)
-
--- the record that begins at a byte is used and doesn't have these two words: the search goes on; if it is used then it has them: it ends
-pub record PassedBy (t : List ℕ) (at front back : ℕ) : Type 0 where
-  pub tag : usedTag (getD t (at + tagOffset) 0) ≡ true
-  pub words : Words t at front back false
-
-abbrev pub StoppedAt : List ℕ → ℕ → ℕ → ℕ → Type 0
-StoppedAt t at front back = usedTag (getD t (at + tagOffset) 0) ≡ true → Words t at front back true
-
--- from index i on the search has come to index r, for whichever key has these two words
-pub record Reached (t : List ℕ) (i front back r : ℕ) : Type 0 where
-  pub onward : i ≤ r
-  pub within : r * recordBytes ≤ length t
-  pub so : (key : List ℕ) → Spelt key front back → findFrom t key r ≡ findFrom t key i

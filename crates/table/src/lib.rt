@@ -6,7 +6,6 @@ ghost use mathlib.Core.List.{_++_};
 ghost use Prim.Native.Nat.{_+_, _*_, _-_, _<_, _≤_};
 ghost use lib.ListN.{length, take, drop, replicate};
 ghost use lib.Seq.{paste};
-ghost use Rattle.table.specs.Searching.{Answers};
 ghost use Rattle.table.specs.Table.{usedTag, used as used-of, find as find-of, findingOf, serverAt, tagAt, newRecord, writtenAfter, halfClosed, removed, removedServer, started, recordBytes, keyBytes};
 
 // A tracking record's bytes: the key, the tag, two zeros, the server's four bytes.
@@ -61,8 +60,8 @@ pub fn used(table: &[u8]) -> usize
 }
 
 // The first used record with a key. The records before the first half-closed one are passed here, where one tag is asked for: that is one
-// comparison. From there on `search::pass` asks for both; asked at the table's end as well, it is compiled by itself, and this loop keeps its
-// registers. The loop counts bytes, and only its end counts records: so it has one number to carry.
+// comparison. From there on `search::find_from` asks for both. The loop counts bytes, and only its end counts records: so it has one number
+// to carry.
 pub fn find(table: &[u8], key: [u8; KEY_BYTES]) -> Found
     ensures { λ r. ⌜ findingOf r ≡ find-of key (now (table .entry)) ⌝ }
 {
@@ -72,14 +71,14 @@ pub fn find(table: &[u8], key: [u8; KEY_BYTES]) -> Found
     let mut at = 0;
     while at < end {
         if table[at + TAG_OFFSET] != NEW_TAG {
-            return find_behind(table, at / RECORD_BYTES, front, back);
+            return search::find_from(table, at / RECORD_BYTES, front, back);
         }
         if search::has_words(table, at, front, back) {
             return Found::At(at / RECORD_BYTES + 1);
         }
         at += RECORD_BYTES;
     }
-    Found::Nothing(search::pass(table, at / RECORD_BYTES, front, back))
+    Found::Nothing(at / RECORD_BYTES)
 }
 
 // The server that the record at a place names, 0 where there is no such place.
@@ -184,25 +183,6 @@ pub(crate) fn used_tag(tag: u8) -> bool
         return true;
     }
     tag == HALF_CLOSED_TAG
-}
-
-// The search from the record with index i on, counted from 0, whose tag isn't 1. That it isn't used is told at once: so ends every search
-// in vain of a table in which no record is half-closed. Where the search stops at a used record, that is the key's.
-fn find_behind(table: &[u8], i: usize, front: u64, back: u64) -> Found
-    requires { ⌜ i * recordBytes + recordBytes ≤ length (now table) ⌝ }
-    ensures { λ r. ⌜ Answers (now (table .entry)) i front back (findingOf r) ⌝ }
-{
-    if !used_tag(table[i * RECORD_BYTES + TAG_OFFSET]) {
-        return Found::Nothing(i);
-    }
-    let n = search::pass(table, i, front, back);
-    if table.len() / RECORD_BYTES <= n {
-        return Found::Nothing(n);
-    }
-    if used_tag(table[n * RECORD_BYTES + TAG_OFFSET]) {
-        return Found::At(n + 1);
-    }
-    Found::Nothing(n)
 }
 
 // Copies a key to the front of a span.

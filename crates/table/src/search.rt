@@ -1,87 +1,57 @@
 // The search for a key's record among records of which some are half-closed. A key is compared by two words of eight bytes.
+use crate::Found;
 use crate::RECORD_BYTES;
 use crate::TAG_OFFSET;
 ghost use mathlib.Core.Path.{_≡_};
-ghost use mathlib.Core.Bool.{true, false};
-ghost use Prim.Native.Nat.{_+_, _*_, _≤_};
+ghost use Prim.Native.Nat.{_+_, _*_, _<_, _≤_};
 ghost use lib.ListN.{length};
 ghost use Rattle.words.specs.Words.{wordAt, BytesAt};
-ghost use Rattle.table.specs.Table.{recordBytes, keyBytes};
-ghost use Rattle.table.specs.Searching.{Words, PassedBy, StoppedAt, Reached};
+ghost use Rattle.table.specs.Table.{findingOf, recordBytes, keyBytes};
+ghost use Rattle.table.specs.Searching.{Answers, Words};
 
-// Passes used records without these two words from index i on, counted from 0, and says which index it has come to: that of the first that
-// has them or isn't used, or the table's end.
-pub(crate) fn pass(table: &[u8], i: usize, front: u64, back: u64) -> usize
+// The first used record with these two words from index i on, counted from 0, whatever the tags. Two records are looked at in a turn: with one
+// the loop's own counting would be two fifths of the work.
+pub(crate) fn find_from(table: &[u8], i: usize, front: u64, back: u64) -> Found
     requires { ⌜ i * recordBytes ≤ length (now table) ⌝ }
-    ensures { λ r. ⌜ Reached (now (table .entry)) i front back r
-        × (r * recordBytes + recordBytes ≤ length (now (table .entry)) → StoppedAt (now (table .entry)) (r * recordBytes) front back) ⌝ }
-{
-    pass_each(table, pass_fours(table, i, front, back), front, back)
-}
-
-// Passes four records at a time, and says where it stopped: with one record at a time the loop's own counting would be two fifths of the
-// work.
-fn pass_fours(table: &[u8], i: usize, front: u64, back: u64) -> usize
-    requires { ⌜ i * recordBytes ≤ length (now table) ⌝ }
-    ensures { λ r. ⌜ Reached (now (table .entry)) i front back r ⌝ }
+    ensures { λ r. ⌜ Answers (now (table .entry)) i front back (findingOf r) ⌝ }
 {
     let end = table.len() / RECORD_BYTES * RECORD_BYTES;
     let mut at = i * RECORD_BYTES;
-    while at + 4 * RECORD_BYTES <= end {
-        if !four_pass(table, at, front, back) {
-            return at / RECORD_BYTES;
+    while at + RECORD_BYTES < end {
+        if !crate::used_tag(table[at + TAG_OFFSET]) {
+            return Found::Nothing(at / RECORD_BYTES);
         }
-        at += 4 * RECORD_BYTES;
-    }
-    at / RECORD_BYTES
-}
-
-// Passes one record at a time.
-fn pass_each(table: &[u8], i: usize, front: u64, back: u64) -> usize
-    requires { ⌜ i * recordBytes ≤ length (now table) ⌝ }
-    ensures { λ r. ⌜ Reached (now (table .entry)) i front back r
-        × (r * recordBytes + recordBytes ≤ length (now (table .entry)) → StoppedAt (now (table .entry)) (r * recordBytes) front back) ⌝ }
-{
-    let end = table.len() / RECORD_BYTES * RECORD_BYTES;
-    let mut at = i * RECORD_BYTES;
-    while at < end {
-        if !passes(table, at, front, back) {
-            return at / RECORD_BYTES;
+        if has_words(table, at, front, back) {
+            return Found::At(at / RECORD_BYTES + 1);
         }
-        at += RECORD_BYTES;
+        let later = at + RECORD_BYTES;
+        if !crate::used_tag(table[later + TAG_OFFSET]) {
+            return Found::Nothing(later / RECORD_BYTES);
+        }
+        if has_words(table, later, front, back) {
+            return Found::At(later / RECORD_BYTES + 1);
+        }
+        at += 2 * RECORD_BYTES;
     }
-    at / RECORD_BYTES
+    find_last(table, at / RECORD_BYTES, front, back)
 }
 
-// Whether four records from a byte on are all used and have other keys than the one with these two words.
-fn four_pass(table: &[u8], at: usize, front: u64, back: u64) -> bool
-    requires { ⌜ at + 4 * recordBytes ≤ length (now table) ⌝ }
-    ensures { λ r. ⌜ (r ≡ true
-        → PassedBy (now (table .entry)) at front back × PassedBy (now (table .entry)) (at + 20) front back
-        × PassedBy (now (table .entry)) (at + 40) front back × PassedBy (now (table .entry)) (at + 60) front back) ⌝ }
+// The same where at most one record is left.
+fn find_last(table: &[u8], i: usize, front: u64, back: u64) -> Found
+    requires { ⌜ (i * recordBytes ≤ length (now table)) × (length (now table) < i * recordBytes + 2 * recordBytes) ⌝ }
+    ensures { λ r. ⌜ Answers (now (table .entry)) i front back (findingOf r) ⌝ }
 {
-    if !passes(table, at, front, back) {
-        return false;
+    if table.len() / RECORD_BYTES <= i {
+        return Found::Nothing(i);
     }
-    if !passes(table, at + RECORD_BYTES, front, back) {
-        return false;
-    }
-    if !passes(table, at + 2 * RECORD_BYTES, front, back) {
-        return false;
-    }
-    passes(table, at + 3 * RECORD_BYTES, front, back)
-}
-
-// Whether the record from a byte on is used and has another key.
-fn passes(table: &[u8], at: usize, front: u64, back: u64) -> bool
-    requires { ⌜ at + recordBytes ≤ length (now table) ⌝ }
-    ensures { λ r. ⌜ (r ≡ true → PassedBy (now (table .entry)) at front back)
-        × (r ≡ false → StoppedAt (now (table .entry)) at front back) ⌝ }
-{
+    let at = i * RECORD_BYTES;
     if !crate::used_tag(table[at + TAG_OFFSET]) {
-        return false;
+        return Found::Nothing(i);
     }
-    !has_words(table, at, front, back)
+    if has_words(table, at, front, back) {
+        return Found::At(i + 1);
+    }
+    Found::Nothing(i + 1)
 }
 
 // The number that the eight bytes from a place on spell, the lowest first; they are bytes.

@@ -1,13 +1,12 @@
 -- `table::find` meets its contract. In the loop the search from the front has come to the present byte.
-use Prim.Native.Nat.{_≤_, _-_, _+_, _/_}
+use Prim.Native.Nat.{_≤_, _-_, _+_}
 use mathlib.Core.Logic.{inl}
-use mathlib.Core.Path.{_≡_, _∙_}
+use mathlib.Core.Path.{_∙_}
 use native.Mathlib.Omega.{arith}
 use lib.ListN.{getD}
-use Rattle.table.specs.Table.{find, Finding}
-use Rattle.table.specs.Searching.{Spelt, Answers}
+use Rattle.table.specs.Searching.{Spelt}
 use Rattle.table.proofs.Keys.{spells}
-use Rattle.table.proofs.Searching.{Come, from-first, come-first, come-here, come-on, reached-end}
+use Rattle.table.proofs.Searching.{Come, from-first, come-first, come-end, come-here, come-on}
 use Rattle.table.proofs.Parts.{tags-are}
 use borrow.Author.Needs.{needs}
 use Rattle.table.proofs.find.Statement.{statement}
@@ -23,14 +22,6 @@ abbrev μ-loop : tie.MeasureT-loop
 spelt : (w : tie.After-word-at2 Inv-loop μ-loop)
     → Spelt (w .before .before .before .before .before .args .t2) (w .before .before .word-at .result) (w .word-at2 .result)
 spelt w = spells _ _ _ (omega arith) (w .before .before .word-at .ensures) (w .word-at2 .ensures)
-
--- who goes on from where the loop has come to has the whole answer
-rest : (l : tie.At-loop Inv-loop μ-loop) (f : Finding)
-    → Answers (l .before .before .before .before .before .before .args .table .now) (l .loop .at / 20) (l .before .before .before .word-at .result) (l .before .word-at2 .result) f
-    → f ≡ find (l .before .before .before .before .before .before .args .t2) (l .before .before .before .before .before .before .args .table .now)
-rest l f a =
-    let p = l .before .before .before .before .before .before .args in
-    a (p .t2) (spelt (l .before)) ∙ l .loop .inv .1 .so (p .t2) (spelt (l .before)) ∙ from-first (p .table .now) (p .t2)
 
 slice-aggregate-word-at : tie.Need-slice-aggregate-word-at Inv-loop μ-loop
 slice-aggregate-word-at c = search needs
@@ -58,11 +49,15 @@ add-if1 c = search needs
 shared-slice-read-if1 : tie.Need-shared-slice-read-if1 Inv-loop μ-loop
 shared-slice-read-if1 c = search needs
 
-find-behind-requires : tie.Need-find-behind-requires Inv-loop μ-loop
-find-behind-requires c κs = omega (arith, c .before .before .before .loop .inv .1 .whole)
+find-from-requires : tie.Need-find-from-requires Inv-loop μ-loop
+find-from-requires c κs = omega (arith, c .before .before .before .loop .inv .1 .whole)
 
 returns : tie.Need-returns Inv-loop μ-loop
-returns c = rest (c .before .before .before .before) _ (c .find-behind .ensures)
+returns c =
+    let l = c .before .before .before .before in
+    let p = l .before .before .before .before .before .before .args in
+    let k = spelt (l .before) in
+    c .find-from .ensures (p .t2) k ∙ l .loop .inv .1 .so (p .t2) k ∙ from-first (p .table .now) (p .t2)
 
 has-words-requires : tie.Need-has-words-requires Inv-loop μ-loop
 has-words-requires c κs = search needs
@@ -94,16 +89,11 @@ loop-again c =
     let tag = tags-are (getD (p .table .now) (l .loop .at + 13) 0) (inl (omega (arith, u .if1 .left))) in
     (omega (arith, l .loop .inv .1 .whole), come-on (p .table .now) 0 _ _ (l .loop .at) (l .loop .inv .1) (omega arith) tag _ (c .before .has-words .ensures) (c .if2 .left))
 
-pass-requires : tie.Need-pass-requires Inv-loop μ-loop
-pass-requires c κs = omega arith
-
 returns-3 : tie.Need-returns-3 Inv-loop μ-loop
 returns-3 c =
-    let l = c .before .before in
-    let w = l .before in
-    let p = w .before .before .before .before .before .args in
-    let q = c .pass .ensures .0 in
-    rest l _ (reached-end (p .table .now) (l .loop .at / 20) _ _ _ q (omega (arith, q .onward)))
+    let l = c .before in
+    let p = l .before .before .before .before .before .before .args in
+    come-end (p .table .now) 0 _ _ (l .loop .at) (l .loop .inv .1) (omega arith) (p .t2) (spelt (l .before)) ∙ from-first (p .table .now) (p .t2)
 
 pub find-spec : {M : Type 1} → statement M
 find-spec =
@@ -119,7 +109,7 @@ find-spec =
     loop-holds
     add-if1
     shared-slice-read-if1
-    find-behind-requires
+    find-from-requires
     returns
     has-words-requires
     add-t21
@@ -127,5 +117,4 @@ find-spec =
     add-at
     loop-less
     loop-again
-    pass-requires
     returns-3)
