@@ -9,14 +9,18 @@ ghost use Rattle.words.specs.Words.{wordAt, BytesAt};
 ghost use Rattle.table.specs.Table.{findingOf, recordBytes, keyBytes};
 ghost use Rattle.table.specs.Searching.{Answers, Words};
 
-// The first used record with these two words from index i on, counted from 0, whatever the tags. Two records are looked at in a turn: with one
-// the loop's own counting would be two fifths of the work.
+// The first used record with these two words from index i on, counted from 0, whatever the tags. That the record there isn't used is told at
+// once: so ends every search in vain of a table in which no record is half-closed. Two records are looked at in a turn: with one the loop's
+// own counting would be two fifths of the work.
 pub(crate) fn find_from(table: &[u8], i: usize, front: u64, back: u64) -> Found
-    requires { ⌜ i * recordBytes ≤ length (now table) ⌝ }
+    requires { ⌜ i * recordBytes + recordBytes ≤ length (now table) ⌝ }
     ensures { λ r. ⌜ Answers (now (table .entry)) i front back (findingOf r) ⌝ }
 {
     let end = table.len() / RECORD_BYTES * RECORD_BYTES;
     let mut at = i * RECORD_BYTES;
+    if !crate::used_tag(table[at + TAG_OFFSET]) {
+        return Found::Nothing(i);
+    }
     while at + RECORD_BYTES < end {
         if !crate::used_tag(table[at + TAG_OFFSET]) {
             return Found::Nothing(at / RECORD_BYTES);
