@@ -2,7 +2,7 @@
 use Prim.Native.Nat.{ℕ, _≤_, _<_}
 use mathlib.Core.Bool.{Bool, true, false, not, _&&_}
 use mathlib.Core.List.{List}
-use mathlib.Core.Path.{_≡_, refl}
+use mathlib.Core.Path.{_≡_, refl, sym}
 use lib.Dec.{eqb, leb}
 use borrow.Author.Tests.{eq-eqb, ne-eqb, le-leb, lt-leb}
 use Rattle.ranking.specs.declared.Pick.{Pick}
@@ -15,7 +15,8 @@ use Rattle.event.specs.declared.Ask.the-variants.{End, AddWorking, RemoveWorkin
 use Rattle.rows.specs.Rows.{Rows, filled}
 use Rattle.table.specs.Table.{Finding, used, tagAt, halfClosed, removed, removedServer}
 use Rattle.rules.specs.Answer.{accepts}
-use Rattle.rules.specs.Rules.{stateWith, State, Change, judged, barred, effect, end, refused, answered, taken, changed, configured, refilled}
+use Rattle.rules.proofs.Ends.{end-first, end-next, end-nothing}
+use Rattle.rules.specs.Rules.{stateWith, State, Change, judged, barred, effect, refused, answered, taken, changed, configured, refilled}
 
 module _ (key t rows flags : List ℕ) (found : Finding) (pick : Pick) (r : Roster) where
   abbrev st : State
@@ -83,19 +84,19 @@ module _ (key t rows flags : List ℕ) (pick : Pick) (r : Roster) (n : ℕ) wher
   pub end-8 : tagAt n t ≡ 1
       → answered (accepts 0 8 n) (halfClosed n t) (stateWith t rows flags r)
       ≡ judged (requestBy End key) (record { found = true; reads = n }) pick (stateWith t rows flags r)
-  unfolding judged barred effect end
-  end-8 e = rw (eq-eqb (tagAt n t) 1 e)
+  unfolding judged barred effect
+  end-8 e = sym (end-first (record { found = true; reads = n }) (stateWith t rows flags r) refl e)
 
   pub end-5 : (tagAt n t ≡ 1 → ⊥)
       → answered (accepts 0 5 n) (removed n t) (stateWith t rows flags r)
       ≡ judged (requestBy End key) (record { found = true; reads = n }) pick (stateWith t rows flags r)
-  unfolding judged barred effect end
-  end-5 e = rw (ne-eqb (tagAt n t) 1 e)
+  unfolding judged barred effect
+  end-5 e = sym (end-next (record { found = true; reads = n }) (stateWith t rows flags r) refl e)
 
   pub end-6 : answered (accepts 0 6 n) t (stateWith t rows flags r)
       ≡ judged (requestBy End key) (record { found = false; reads = n }) pick (stateWith t rows flags r)
-  unfolding judged barred effect end
-  end-6 = refl
+  unfolding judged barred effect
+  end-6 = sym (end-nothing (record { found = false; reads = n }) (stateWith t rows flags r) refl)
 
 -- an accepted roster change, by the method
 module _ (next r₀ : Roster) (t t₀ rows flags : List ℕ) where

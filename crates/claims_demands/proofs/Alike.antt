@@ -3,7 +3,7 @@ use Prim.Native.Nat.{ℕ}
 use mathlib.Core.List.{List, [], _∷_, _++_}
 use mathlib.Core.Path.{_≡_, refl, _∙_}
 use Rattle.claims_histories.specs.Histories.{AllBytes}
-use Rattle.claims_demands.specs.Demands.{Engine, Demand2, Throughout, endsSince, FewerThanTwo, NoneWithout, Provided, Steady, Demand3}
+use Rattle.claims_demands.specs.Demands.{Engine, Demand2, Throughout, endsSince, FewerThanTwo, NoneWithout, ProvisosWith, Steady, Demand3}
 
 pub record Alike (E G : Engine) : Type 0 where
   pub table : (h : List (List ℕ)) → AllBytes h → E .table h ≡ G .table h
@@ -36,7 +36,7 @@ module _ (E G : Engine) (a : Alike E G) where
       }
 
   -- the ends since the key's record was written, and the two halves of the proviso about them
-  same-ends : (key : List ℕ) (h : List (List ℕ)) → AllBytes h → endsSince E key h ≡ endsSince G key h
+  pub same-ends : (key : List ℕ) (h : List (List ℕ)) → AllBytes h → endsSince E key h ≡ endsSince G key h
   unfolding endsSince
   same-ends key [] b = refl
   same-ends key (bytes ∷ h) b = rw (a .says h bytes b, same-ends key h (b .1))
@@ -54,8 +54,8 @@ module _ (E G : Engine) (a : Alike E G) where
       first-same : E .says h earlier ≡ G .says h earlier
       first-same = a .says h earlier (bytes-behind between (earlier ∷ h) b)
 
-      same-provisos : Provided (Q key) E h earlier key (E .says h earlier .server) between
-          → Provided (R key) G h earlier key (G .says h earlier .server) between
+      same-provisos : ProvisosWith (Q key) E h earlier key (E .says h earlier .server) between
+          → ProvisosWith (R key) G h earlier key (G .says h earlier .server) between
       same-provisos v =
           let before = a .roster h (bytes-behind between (earlier ∷ h) b .1) in
           record {
@@ -67,8 +67,8 @@ module _ (E G : Engine) (a : Alike E G) where
             roomTold = rw first-same at (v .roomTold);
           }
 
-    same-steady : Steady (λ h earlier key m between. Provided (R key) G h earlier key m between) G
-        → Steady (λ h earlier key m between. Provided (Q key) E h earlier key m between) E
+    same-steady : Steady (λ h earlier key m between. ProvisosWith (R key) G h earlier key m between) G
+        → Steady (λ h earlier key m between. ProvisosWith (Q key) E h earlier key m between) E
     same-steady d h between earlier later key b p₁ p₂ accepted v =
         let l = between ++ (earlier ∷ h) in
         let c = bytes-behind between (earlier ∷ h) (b .1) in
@@ -82,8 +82,8 @@ module _ (E G : Engine) (a : Alike E G) where
           last = rw (last, a .table l (b .1), a .roster l (b .1)) (s .last);
         }
 
-  pub alike-enough : Steady (λ h earlier key m between. Provided (FewerThanTwo G key) G h earlier key m between) G
-      → Steady (λ h earlier key m between. Provided (FewerThanTwo E key) E h earlier key m between) E
+  pub alike-enough : Steady (λ h earlier key m between. ProvisosWith (FewerThanTwo G key) G h earlier key m between) G
+      → Steady (λ h earlier key m between. ProvisosWith (FewerThanTwo E key) E h earlier key m between) E
   alike-enough = same-steady (FewerThanTwo E) (FewerThanTwo G) same-fewer
 
   pub alike-steady : Demand3 G → Demand3 E

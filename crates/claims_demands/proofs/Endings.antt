@@ -14,6 +14,7 @@ use Rattle.event.proofs.Reading.{end-reads}
 use Rattle.table.specs.Table.{Finding, usedPart, used, findAmong, find, tagAt, newRecord, without, removed, halfClosed}
 use Rattle.table.proofs.HalfClosed.{closedOnce, closedAt, used-closed, used-stays, find-closed}
 use Rattle.table.proofs.Records.{used-removed, tag-used}
+use Rattle.table.proofs.InBytes.{one-less}
 use Rattle.table.proofs.Finds.{found-from, found-first}
 use Rattle.rules.specs.Answer.{Answer}
 use Rattle.claims_histories.specs.Histories.{AllBytes}
@@ -21,17 +22,13 @@ use Rattle.claims_demands.specs.Demands.{Engine, Demand2}
 use Rattle.claims_demands.proofs.Same.{first-end, next-end}
 use Rattle.claims_demands.proofs.Witness.{keyP, packetP, endP, waiting, joined-bytes, written-part, written-find}
 
-without-fewer : (i : ℕ) (rs : List (List ℕ)) → i < length rs → length (without (suc i) rs) < length rs
-unfolding without
-without-fewer i [] h = absurd (not-suc-le-zero h)
-without-fewer zero (r ∷ rs) h = omega arith
-without-fewer (suc i) (r ∷ rs) h = omega (arith, without-fewer i rs (le-of-suc-le-suc h))
-
 -- a key's record taken away leaves fewer
 removed-fewer : (key t : List ℕ) → find key t .found ≡ true → used (removed (find key t .reads) t) < used t
 removed-fewer key t f =
     let p : suc (find key t .reads - 1) ≡ find key t .reads = omega (arith, found-from key t f) in
-    rw (used-removed t (find key t .reads), ← p) (without-fewer (find key t .reads - 1) (usedPart t) (found-first key t f .within))
+    let within = found-first key t f .within in
+    let less : length (without (find key t .reads) (usedPart t)) ≡ used t - 1 = rw p at (one-less (find key t .reads - 1) (usedPart t) within) in
+    rw (used-removed t (find key t .reads)) (omega (arith, less, within))
 
 -- ---- at any event
 module _ (n : ℕ) (E : Engine) (d : Demand2 n E) (h : List (List ℕ)) (bytes key : List ℕ) (b : AllBytes (bytes ∷ h)) (e : eventIn bytes ≡ asksKey 2 key)

@@ -1,6 +1,6 @@
 -- Demands 2 and 3 of every balancer whose calls keep the promises that the contracts of `start` and `event` cite, and demand 3 of every engine
 -- that obeys demand 2: what each shows is what our engine shows.
-use Prim.Native.Nat.{ℕ, _%_, _<_, _≤_}
+use Prim.Native.Nat.{ℕ, _+_, _%_, _<_, _≤_}
 use mathlib.Core.Bool.{true, false}
 use mathlib.Core.List.{List, [], _∷_}
 use mathlib.Core.Logic.{_≢_}
@@ -12,12 +12,13 @@ use Rattle.rules.specs.Answer.{answerOf}
 use Rattle.rules.specs.Rules.{World, Done, eventOf}
 use Rattle.claims_histories.specs.Histories.{startAccepted, after, answer, AllBytes, Distinct}
 use Rattle.claims_histories.proofs.Along.{along}
-use Rattle.claims_demands.specs.Demands.{Engine, ours, InUse, Keeps, shown, Demand2, FewerThanTwo, Provided, Steady, Demand3}
-use Rattle.claims_demands.proofs.Alike.{Alike, alike-obeys, alike-enough, alike-steady}
+use Rattle.claims_demands.specs.Demands.{Engine, ours, InUse, Keeps, shown, Demand2, endsSince, FewerThanTwo, ProvisosWith, Steady, Demand3}
+use Rattle.claims_demands.proofs.Alike.{Alike, same-ends, alike-obeys, alike-enough, alike-steady}
 use Rattle.claims_demands.proofs.Demand1.{demand1-met, demand1-start-met}
 use Rattle.claims_demands.proofs.Obeys.{ours-obeys}
 use Rattle.claims_demands.proofs.Same.{next-end, same-engines, same-answers}
 use Rattle.claims_demands.proofs.SteadyRecords.{read-missing, read-ended}
+use Rattle.claims_demands.proofs.TagCounts.{tag-counts}
 use Rattle.claims_demands.proofs.Steady.{ends-enough, ours-steady}
 use Rattle.claims_demands.proofs.Pretenders.{blankWorld, blank-starts, blank-obeys}
 
@@ -67,15 +68,22 @@ module _ (n : ℕ) (above : 0 < n) (few : n ≤ 65520) (whole : n % 20 ≡ 0) (E
         says = λ h bytes b. same-answers n E o d g h (b .1) bytes (b .0);
       }
 
-  -- and the sentence about two successive packets with the first half of the proviso about ends
-  pub every-enough : Steady (λ h earlier key m between. Provided (FewerThanTwo E key) E h earlier key m between) E
+  -- the sentence about two successive packets, with the first half of the proviso about ends
+  pub every-enough : Steady (λ h earlier key m between. ProvisosWith (FewerThanTwo E key) E h earlier key m between) E
   every-enough = alike-enough E (ours (blankWorld n)) every-alike (ends-enough (blankWorld n) (blank-starts n above few whole))
 
   -- DEMAND 3
   pub every-steady : Demand3 E
   every-steady = alike-steady E (ours (blankWorld n)) every-alike (ours-steady (blankWorld n) (blank-starts n above few whole))
 
-  -- where no key is recorded twice, one that is ended for the second time has no record: the impostor that only tags shows by that too, at any event
+  -- the tag counts the ends
+  pub every-counts : (h : List (List ℕ)) → AllBytes h → (key : List ℕ) → find key (E .table h) .found ≡ true
+      → tagAt (find key (E .table h) .reads) (E .table h) ≡ 1 + endsSince E key h
+  every-counts h b key =
+      rw (every-alike .table h b, same-ends E (ours (blankWorld n)) every-alike key h b)
+      (tag-counts (blankWorld n) (blank-starts n above few whole) h b key)
+
+  -- a key that is ended for the second time has no record then. (It rests on no key being recorded twice.)
   pub second-removes : (h : List (List ℕ)) (bytes key : List ℕ) → AllBytes (bytes ∷ h) → eventIn bytes ≡ asksKey 2 key
       → find key (E .table h) .found ≡ true → tagAt (find key (E .table h) .reads) (E .table h) ≢ 1 → find key (E .table (bytes ∷ h)) .found ≡ false
   second-removes h bytes key b e f other =

@@ -19,7 +19,8 @@ use Rattle.table.proofs.Finds.{missing-reads}
 use Rattle.ringplan.specs.Plan.{some}
 use Rattle.ringplan.proofs.Members.{some-member}
 use Rattle.rules.specs.Answer.{Answer, accepts}
-use Rattle.rules.specs.Rules.{Change, stateWith, is, packet, end, barred, effect, judged}
+use Rattle.rules.specs.Rules.{State, Change, stateWith, is, packet, end, barred, effect, judged}
+use Rattle.rules.proofs.Ends.{end-first, end-next, end-nothing}
 use Rattle.claims_histories.specs.Histories.{AllBytes}
 use Rattle.claims_demands.specs.Demands.{Engine, rankingOf, mover, Unsafe, PacketRight, otherwise, Demand2}
 use Rattle.claims_demands.proofs.Packets.{flagged, unflagged}
@@ -102,26 +103,23 @@ module _ (n : ℕ) (E : Engine) (d : Demand2 n E) (h : List (List ℕ)) (bytes :
     abbrev place : ℕ
     place = find key (E .table h) .reads
 
+    abbrev st : State
+    st = stateWith (E .table h) [] [] (E .roster h)
+
+    seen-as : {c : Change} → end (find key (E .table h)) st ≡ c → (E .says h bytes ≡ c .answer) × (E .table (bytes ∷ h) ≡ c .state .table)
+    seen-as q = let s = end-seen key e in (s .answer ∙ ap (λ (c : Change). c .answer) q, s .table ∙ ap (λ (c : Change). c .state .table) q)
+
     pub no-end : find key (E .table h) .found ≡ false → (E .says h bytes ≡ accepts 0 6 place) × (E .table (bytes ∷ h) ≡ E .table h)
-    unfolding end
-    no-end f = let s = end-seen key e in (s .answer ∙ rw f, s .table ∙ rw f)
+    no-end f = seen-as (end-nothing (find key (E .table h)) st f)
 
     module _ (f : find key (E .table h) .found ≡ true) where
       pub first-end : tagAt place (E .table h) ≡ 1
           → (E .says h bytes ≡ accepts 0 8 place) × (E .table (bytes ∷ h) ≡ halfClosed place (E .table h))
-      unfolding end
-      first-end one =
-          let s = end-seen key e in
-          let q = eq-eqb (tagAt place (E .table h)) 1 one in
-          (s .answer ∙ rw (f, q), s .table ∙ rw (f, q))
+      first-end one = seen-as (end-first (find key (E .table h)) st f one)
 
       pub next-end : tagAt place (E .table h) ≢ 1
           → (E .says h bytes ≡ accepts 0 5 place) × (E .table (bytes ∷ h) ≡ removed place (E .table h))
-      unfolding end
-      next-end other =
-          let s = end-seen key e in
-          let q = ne-eqb (tagAt place (E .table h)) 1 other in
-          (s .answer ∙ rw (f, q), s .table ∙ rw (f, q))
+      next-end other = seen-as (end-next (find key (E .table h)) st f other)
 
 -- a packet that an engine which obeys accepts found some server at work
 pub accepted-works : (n : ℕ) (E : Engine) → Demand2 n E → (h : List (List ℕ)) (bytes key : List ℕ) → AllBytes (bytes ∷ h)

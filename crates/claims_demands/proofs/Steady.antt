@@ -18,7 +18,7 @@ use Rattle.rules.specs.Rules.{World, settled, eventOf}
 use Rattle.claims_histories.specs.Histories.{startAccepted, after, answer, AllBytes, Distinct, AllWorking}
 use Rattle.claims_histories.proofs.Along.{event-judged, inner, along}
 use Rattle.claims_histories.proofs.Meaning.{distinct-apart, works-each}
-use Rattle.claims_demands.specs.Demands.{ours, mover, Throughout, FewerThanTwo, Provided, Steady, Demand3}
+use Rattle.claims_demands.specs.Demands.{ours, mover, Throughout, FewerThanTwo, ProvisosWith, Steady, Demand3}
 use Rattle.claims_demands.proofs.Alike.{throughout-follows, bytes-behind}
 use Rattle.claims_demands.proofs.Obeys.{ours-obeys}
 use Rattle.claims_demands.proofs.Same.{accepted-works}
@@ -111,7 +111,7 @@ accepted-mover w s h bytes key b e a =
 
 -- the sentence about two successive packets, with only the first half of the proviso about ends: "fewer than two since the key's record was
 -- written". An end of a key without a record changes nothing, so that there be none needn't be asked.
-pub ends-enough : (w : World) → startAccepted w ≡ true → Steady (λ h earlier key m between. Provided (FewerThanTwo (ours w) key) (ours w) h earlier key m between) (ours w)
+pub ends-enough : (w : World) → startAccepted w ≡ true → Steady (λ h earlier key m between. ProvisosWith (FewerThanTwo (ours w) key) (ours w) h earlier key m between) (ours w)
 ends-enough w s h between earlier later key b p₁ p₂ a v =
     let m = answer w h earlier .server in
     let P : ℕ → Type 0 = λ x. member x (heldServers (after w h .state .roster)) ≡ true in

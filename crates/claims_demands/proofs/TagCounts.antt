@@ -24,7 +24,7 @@ use Rattle.table.proofs.HalfClosed.{tag-cases}
 use Rattle.claims_histories.proofs.Inner.{Inner}
 use Rattle.claims_histories.proofs.Picking.{pickAt}
 use Rattle.claims_histories.proofs.Along.{event-judged, inner}
-use Rattle.claims_demands.specs.Demands.{Engine, ours, isOf, endsSince, FewerThanTwo}
+use Rattle.claims_demands.specs.Demands.{Engine, ours, isOf, endsSince, FewerThanTwo, NoneWithout}
 use Rattle.claims_demands.proofs.Obeys.{ours-obeys}
 use Rattle.claims_demands.proofs.Same.{no-end, first-end, next-end}
 use Rattle.claims_demands.proofs.Witness.{clear-used}
@@ -218,3 +218,21 @@ module _ (w : World) (s : startAccepted w ≡ true) where
         (λ f.
         let a = no-end (length (w .state .table)) (ours w) (ours-obeys w s) h bytes b key e f .0 in
         omega (arith, m, ap (λ (x : Answer). x .mark) a))
+
+    -- the proviso about ends, both halves, lets an end pass exactly when its mark is 8
+    pub proviso-marked : (FewerThanTwo (ours w) key h bytes × NoneWithout (ours w) key h bytes) ↔ (answer w h bytes .mark ≡ 8)
+    proviso-marked =
+        both (find key (after w h .state .table) .found)
+        (λ f.
+        let (ok, t) = told f in
+        ⊎-elim
+        (λ (m, n). (λ q. m, λ q. (λ x y. omega (arith, n), λ x y. omega (arith, m, y))))
+        (λ (m, n). (
+          λ (few, without). absurd (let l = few (rw (e, ok, same-self key)) (λ q. omega (arith, m, q)) in omega (arith, n, l)),
+          λ q. absurd (omega (arith, m, q)),
+        ))
+        t)
+        (λ f.
+        let a = no-end (length (w .state .table)) (ours w) (ours-obeys w s) h bytes b key e f .0 in
+        let m = ap (λ (x : Answer). x .mark) a in
+        (λ (few, without). absurd (without (rw (e, ap (λ (x : Answer). x .accepted) a, same-self key)) m), λ q. absurd (omega (arith, m, q))))

@@ -1,6 +1,6 @@
 -- Document 01's phrases in its table of refusals, cause by cause, and what a key's record and a method give. Written out by themselves: no test of the
 -- rules (`barred`, `sizesRight`, `sound`, `valid`, `eventIn`, `find`) is cited, so that a wrong one doesn't prove what Demand1.antt states. Cited, and so to be
--- believed, are the used part, the server at a place, the entry that a key reads, the two sets and the choice.
+-- believed, are the used part, the server and the tag at a place, the entry that a key reads, the two sets and the choice.
 use Prim.Native.Nat.{ℕ, _-_, _%_, _^_, _<_, _≤_}
 use mathlib.Core.Bool.{true, false}
 use mathlib.Core.List.{List, [], _∷_, _++_}

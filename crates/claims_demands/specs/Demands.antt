@@ -135,23 +135,25 @@ ended E key g bytes = isOf 2 key bytes && E .says g bytes .accepted
 abbrev pub recordWritten : Engine → List ℕ → List (List ℕ) → List ℕ → Bool
 recordWritten E key g bytes = isOf 1 key bytes && eqb (E .says g bytes .mark) 3
 
--- the ends of a key in a history "since the key's record was written", by its events and the answers to them
+-- the ends of a key in a history "since the key's record was written", by its events and the answers to them. Of a key that has no record the
+-- number says nothing, and isn't asked for.
 unfoldable pub endsSince : Engine → List ℕ → List (List ℕ) → ℕ
 endsSince E key [] = 0
 endsSince E key (bytes ∷ g) =
     cond (recordWritten E key g bytes) 0 (cond (ended E key g bytes) (endsSince E key g + 1) (endsSince E key g))
 
--- request [1], the proviso about ends, at an event between: "fewer than two since the key's record was written", that is of an end that finds a
--- record; "and none for a key without one", whose end has mark 6
+-- request [1]'s proviso, at an event between. "fewer than two since the key's record was written": asked of an end that finds a record, so whose
+-- mark isn't 6
 abbrev pub FewerThanTwo : Engine → List ℕ → List (List ℕ) → List ℕ → Type 0
 FewerThanTwo E key g bytes = ended E key g bytes ≡ true → E .says g bytes .mark ≢ 6 → endsSince E key (bytes ∷ g) < 2
 
+-- "and none for a key without one"
 abbrev pub NoneWithout : Engine → List ℕ → List (List ℕ) → List ℕ → Type 0
 NoneWithout E key g bytes = ended E key g bytes ≡ true → E .says g bytes .mark ≢ 6
 
 -- the provisos of demand 3, for a key whose earlier packet, record `earlier` after history h, got mover m, and the records between it and
--- the later packet (the newest first). The one about ends is handed in, since what it has to ask is a question of its own (`ends-enough`).
-pub record Provided (Ends : List (List ℕ) → List ℕ → Type 0) (E : Engine) (h : List (List ℕ)) (earlier key : List ℕ) (m : ℕ) (between : List (List ℕ)) : Type 0 where
+-- the later packet (the newest first). The one about ends is handed in: `ends-enough` holds with half of it.
+pub record ProvisosWith (Ends : List (List ℕ) → List ℕ → Type 0) (E : Engine) (h : List (List ℕ)) (earlier key : List ℕ) (m : ℕ) (between : List (List ℕ)) : Type 0 where
   -- "provided that mover worked throughout"
   pub worked : Throughout (λ g bytes. stateOf m (E .roster (bytes ∷ g)) ≡ working) between (earlier ∷ h)
   pub ends : Throughout Ends between (earlier ∷ h)
@@ -164,9 +166,9 @@ pub record Provided (Ends : List (List ℕ) → List ℕ → Type 0) (E : Engine
   -- "and the earlier packet wasn't told there was no room"
   pub roomTold : E .says h earlier .mark ≢ 4
 
--- "fewer than two since the key's record was written, and none for a key without one"
+-- with both halves of request [1]'s
 abbrev pub Provisos : Engine → List (List ℕ) → List ℕ → List ℕ → ℕ → List (List ℕ) → Type 0
-Provisos E h earlier key m between = Provided (λ g bytes. FewerThanTwo E key g bytes × NoneWithout E key g bytes) E h earlier key m between
+Provisos E h earlier key m between = ProvisosWith (λ g bytes. FewerThanTwo E key g bytes × NoneWithout E key g bytes) E h earlier key m between
 
 -- "get the same mover": the later packet is accepted and gives the earlier one's mover, which at both is demand 2's, over its ranking
 pub record SameMover (E : Engine) (h between : List (List ℕ)) (earlier later key : List ℕ) : Type 0 where

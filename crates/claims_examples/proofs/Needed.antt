@@ -115,7 +115,7 @@ fewer-needed =
       λ q. let z : _≡_ {A = ℕ} 3 4 = q in omega arith,
     )
 
--- so the whole proviso about ends is needed
+-- so the proviso about ends can't be dropped
 pub ends-needed : Steady (ButEnds (ours (lent 2))) (ours (lent 2)) → ⊥
 ends-needed d =
     fewer-needed (λ h between earlier later key b p₁ p₂ a (worked, without, held, roomy). d h between earlier later key b p₁ p₂ a (worked, held, roomy))

@@ -91,7 +91,7 @@ module _ (place : ℕ) (t : List ℕ) where
   unfolding removed
   removed-behind = packed-behind (without place (usedPart t)) t (without-each Sized place (usedPart t) (used-sized t)) (without-length place (usedPart t))
 
-one-less : (i : ℕ) (rs : List (List ℕ)) → i < length rs → length (without (suc i) rs) ≡ length rs - 1
+pub one-less : (i : ℕ) (rs : List (List ℕ)) → i < length rs → length (without (suc i) rs) ≡ length rs - 1
 one-less i rs h = ap length (without-in i rs h) ∙ simp (length-append, length-drop, length-take-le i rs (omega arith)) (omega arith)
 
 pub removed-zero : (i : ℕ) (t : List ℕ) → i < used t → take 20 (drop ((used t - 1) * 20) (removed (suc i) t)) ≡ replicate 20 0
