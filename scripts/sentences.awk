@@ -43,7 +43,8 @@ function packet() {
 }
 # what an end did: the first on a record leaves it half-closed, the next takes it away
 function ended() {
-    if ($5 == 8) return ", the first on its record (place " $6 "), which is half-closed now: it leads packets as before, and goes at the next end."
+    if ($5 == 8) return ", the first on its record (place " $6 "), which is half-closed now: " \
+        "it leads packets as before, and goes at the next end."
     if ($5 == 5) return ", the second on its record (place " $6 "), which goes."
     return ". It has no record: nothing changes."
 }
