@@ -43,14 +43,15 @@ function packet() {
 }
 # what an end did: the first on a record leaves it half-closed, the next takes it away
 function ended() {
-    if ($5 == 8) return "closes one side. Its record (place " $6 ") stays until the next end."
-    if ($5 == 5) return "ends, and its record goes: one side had closed before."
-    return "closes a side. It has no record: nothing to remove."
+    if ($5 == 8) return ", the first on its record (place " $6 "), which is half-closed now: " \
+        "it leads packets as before, and goes at the next end."
+    if ($5 == 5) return ", the second on its record (place " $6 "), which goes."
+    return ". It has no record: nothing changes."
 }
 function sentence() {
     if ($3 != 0) return "Refused: " ($3 in why ? why[$3] : "by number " $3) ". Nothing changes. (" asked() ")"
     if ($2 == 1) return "A packet of " session() ", " packet()
-    if ($2 == 2) return "The session of " session() ", " ended()
+    if ($2 == 2) return "An end of " session() ended()
     if ($2 == 3) return "Mover " named() " comes out of the horizon and works."
     if ($2 == 4) return "Mover " named() " leaves work for the horizon, and every record that named it goes (" \
         before - $7 (before - $7 == 1 ? " record)." : " records).")

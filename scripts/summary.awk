@@ -46,7 +46,7 @@ END {
     numbered(4, "packet: a standby would change it; NOT RECORDED: no room", marks[4], 1)
     numbered(5, "end: the second on its record, which went", marks[5])
     numbered(6, "end: there was no record", marks[6])
-    numbered(8, "end: the first on its record, which stays until the next", marks[8])
+    numbered(8, "end: the first on its record, half-closed until the next", marks[8])
 
     why[1] = "malformed record"; why[2] = "mover 0"; why[3] = "add to the horizon: the mover works or stands by already"
     why[4] = "the mover doesn't stand by"; why[5] = "remove working: the mover doesn't work"; why[6] = "64 movers are held"

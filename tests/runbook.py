@@ -325,7 +325,8 @@ def marks(lines):
 
 
 @says("The record keeps its place and goes on leading the session", "changes nothing and isn't remembered",
-      "One that learns only that a session is over sends its end twice, at once", "A packet behind the second is a new session")
+      "One that learns only that a session is over sends its end twice, at once",
+      "A packet behind it, such as TCP's last acknowledgement, is a new session's: a record that it gets has no end to come, and stays as long")
 def both_ends():
     for method, rows in METHODS:
         parts = run(roster(WORK, STAND, method, rows) + ends(K), P, ends(K), P, ends(K), P, ends(k for k in K for _ in range(2)))
@@ -334,11 +335,12 @@ def both_ends():
         assert recorded and marked(first, 2, 3) == set(range(1000)) and marks(early[-1000:]) == [6] * 1000
         assert marked(half, 8) == recorded == marked(led, 1) == marked(over, 5) and not moved(first, led)
         assert half[-1].used == led[-1].used == len(recorded) and over[-1].used == 0
-        assert marks(again) == marks(first) and twice[-1].used == 0
+        assert marks(again) == marks(first) and again[-1].used == len(recorded) and twice[-1].used == 0
         assert marked(twice[::2], 8) == recorded == marked(twice[1::2], 5)
+        assert run(roster(WORK, STAND, method, rows), P, ends(K), ends(K), P, remove_working(*WORK))[-1][-1].used == 0
 
 
-@says("One that reports one only never frees a place: its records stay half-closed until their mover stops")
+@says("With one that reports one only, records stay half-closed until their mover stops or a later session with the same key ends")
 def one_end_only():
     parts = run(roster(WORK, STAND), *[x for n in range(0, 1000, 200) for x in (P[n:n + 200], ends(K[n:n + 200]))], *map(remove_working, WORK))
     lines = [line for part in parts[1:-8] for line in part]
@@ -348,6 +350,8 @@ def one_end_only():
     for mover, (stop,) in zip(WORK, parts[-8:]):
         used -= recorded.count(mover)
         assert stop.used == used
+    half, later, ended = run(roster(WORK, STAND), P, ends(K), P, ends(K))[2:]
+    assert marked(half, 8) == marked(later, 1) == marked(ended, 5) and len(marked(half, 8)) == len(recorded) and ended[-1].used == 0
 
 
 def left(before, *between):
@@ -595,7 +599,8 @@ def commands(folder, lines):
     assert sorted(got) == sorted(["%s: %d" % pair for pair in want.items()] + ["used now: %d" % last[-1].used]), got
 
 
-@says("Marks 8 less marks 5 is the number of half-closed records", "too high once a mover stopped, whose records went without an end",
+@says("Marks 8 less marks 5 is the number of half-closed records",
+      "too high once a mover stopped, whose records went without an end; then half_closed | wc -l has it",
       "for each session with a half-closed record of which nothing came among the last 100,000 events", "Each frees its place")
 def half_closed_records():
     """The page's count, list and ends for half-closed records, on a day before and after movers stopped."""
@@ -622,8 +627,9 @@ def half_closed_records():
                     out.write(text)
             number = int(sh(command("awk '$5 == 8"), folder))
             assert half and (number > len(half) if stopped else number == len(half))
+            assert int(sh(FUNCTIONS + command("half_closed |"), folder)) == len(half)
             for n in ("", "0", "1", "200", "700", str(len(day))):
-                typed = [command("half_closed").replace("100000", n), command(". ./over").replace(">&3", "")]
+                typed = [command("half_closed 1").replace("100000", n), command(". ./over").replace(">&3", "")]
                 sent = session.split(sh(FUNCTIONS + "\n".join(typed), folder))
                 want = {k for k, heard in half.items() if heard <= len(day) - int(n or 0)}
                 assert sorted(sent) == sorted(ends(want)), "half_closed %s" % n
