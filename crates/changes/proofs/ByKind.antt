@@ -1,9 +1,9 @@
 -- What the rules come to for an event of each kind, by the tests that the code makes.
 use Prim.Native.Nat.{ℕ, _≤_, _<_}
-use mathlib.Core.Bool.{Bool, true, false, not, _&&_}
+use mathlib.Core.Bool.{Bool, true, false}
 use mathlib.Core.List.{List}
 use mathlib.Core.Path.{_≡_, refl, sym}
-use lib.Dec.{eqb, leb}
+use lib.Dec.{eqb}
 use borrow.Author.Tests.{eq-eqb, ne-eqb, le-leb, lt-leb}
 use Rattle.ranking.specs.declared.Pick.{Pick}
 use Rattle.settings.specs.declared.Settings.{Settings}
@@ -12,7 +12,7 @@ use Rattle.roster.specs.Roster.{workingSet, horizon, stateOf, addedWorking, rem
 use Rattle.event.specs.Event.{requestBy}
 use Rattle.event.specs.declared.Ask.{Ask}
 use Rattle.event.specs.declared.Ask.the-variants.{End, AddWorking, RemoveWorking, AddHorizon, RemoveHorizon, Configure, Refused}
-use Rattle.rows.specs.Rows.{Rows, filled}
+use Rattle.rows.specs.Rows.{filled}
 use Rattle.table.specs.Table.{Finding, used, tagAt, halfClosed, removed, removedServer}
 use Rattle.rules.specs.Answer.{accepts}
 use Rattle.rules.proofs.Ends.{end-first, end-next, end-nothing}
