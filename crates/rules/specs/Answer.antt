@@ -23,7 +23,7 @@ answerOf (Accepted s mark reads) = accepts s mark reads
 answerOf (Refused n) = refuses n
 
 -- the marks of accepted packets and ends: "1 from the record, 2 chosen and safe, 3 chosen and recorded, 4 chosen, unsafe and no room; 5 record
--- removed, 6 nothing to remove"; and request [1]'s 8, at "the first end on a record"
+-- removed, 6 nothing to remove"; and request [1]'s 8, at the "first end on a record"
 abbrev pub fromRecord : ℕ
 fromRecord = 1
 
