@@ -11,7 +11,7 @@ use Rattle.sets.proofs.Cases.{clash}
 use Rattle.event.specs.Event.{allBytes, asksKey, eventIn}
 use Rattle.event.proofs.Reading.{end-reads}
 use Rattle.table.specs.Table.{Finding, usedPart, used, findAmong, find, tagAt, newRecord, without, removed, halfClosed}
-use Rattle.table.proofs.HalfClosed.{closedOnce, closedAt, used-closed, used-stays, find-closed}
+use Rattle.table.proofs.HalfClosed.{halfRecord, halfAt, used-half, used-stays, find-half}
 use Rattle.table.proofs.Records.{used-removed, tag-used}
 use Rattle.table.proofs.InBytes.{one-less}
 use Rattle.table.proofs.Finds.{found-from, found-first}
@@ -42,7 +42,7 @@ module _ (n : ℕ) (E : Engine) (d : Demand2 n E) (h : List (List ℕ)) (bytes k
       let (a, t) = first-end n E d h bytes b key e f one in
       ⊎-elim (λ m. omega (arith, m, ap (λ (x : Answer). x .mark) a))
       (⊎-elim
-      (λ g. clash (ap (λ (x : Finding). x .found) (ap (find key) t ∙ find-closed key (E .table h) place) ∙ f) g)
+      (λ g. clash (ap (λ (x : Finding). x .found) (ap (find key) t ∙ find-half key (E .table h) place) ∙ f) g)
       (λ l. omega (arith, l, ap used t ∙ used-stays (E .table h) place)))
 
   -- one that only tags at the second: it says so, or as many records are used afterwards
@@ -87,10 +87,10 @@ module _ (n : ℕ) (E : Engine) (d : Demand2 n E) (room : 20 ≤ n) where
       ∙ ap (λ (x : Finding). halfClosed (x .reads) (E .table one)) (written-find n E d room)
 
   once-find : find keyP (E .table (endP ∷ one)) ≡ record { found = true; reads = 1 }
-  once-find = ap (find keyP) once-table ∙ find-closed keyP (E .table one) 1 ∙ written-find n E d room
+  once-find = ap (find keyP) once-table ∙ find-half keyP (E .table one) 1 ∙ written-find n E d room
 
-  once-part : usedPart (E .table (endP ∷ one)) ≡ closedOnce (newRecord keyP 1) ∷ []
-  once-part = ap usedPart once-table ∙ used-closed (E .table one) 1 ∙ ap (closedAt 1) (written-part n E d room)
+  once-part : usedPart (E .table (endP ∷ one)) ≡ halfRecord (newRecord keyP 1) ∷ []
+  once-part = ap usedPart once-table ∙ used-half (E .table one) 1 ∙ ap (halfAt 1) (written-part n E d room)
 
   once-tag : tagAt (find keyP (E .table (endP ∷ one)) .reads) (E .table (endP ∷ one)) ≡ 2
   once-tag =

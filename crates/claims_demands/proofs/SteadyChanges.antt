@@ -24,7 +24,7 @@ use Rattle.rules.specs.Rules.{World, Change}
 use Rattle.rules.proofs.Ends.{first, next, nothing}
 use Rattle.claims_histories.proofs.Inner.{Inner}
 use Rattle.claims_histories.proofs.Picking.{pickAt}
-use Rattle.claims_demands.proofs.SteadyRecords.{serverFor, read-missing, read-appended, server-new, read-removed, server-halved, read-kept, read-without-server}
+use Rattle.claims_demands.proofs.SteadyRecords.{serverFor, read-missing, read-appended, server-new, read-removed, server-half, read-kept, read-without-server}
 use Rattle.claims_demands.proofs.SteadyEvents.{Served, known, safe, written, full, Goes, turned, served, ended, entered, left, stood, went, set}
 
 module _ (w : World) (i : Inner w) where
@@ -69,7 +69,7 @@ module _ (w : World) (i : Inner w) where
     keeps-record (served k (written g s l)) key m n₂ q f =
         read-appended serverOf key (w .state .table) (i .along .clean) l (e .key) (pickAt w (e .key) .server) sized m f
     keeps-record (served k full) key m n₂ q f = f
-    keeps-record (ended k (first g t)) key m n₂ q f = server-halved key (w .state .table) (e .key) g ∙ f
+    keeps-record (ended k (first g t)) key m n₂ q f = server-half key (w .state .table) (e .key) g ∙ f
     keeps-record (ended k (next g t)) key m n₂ q f =
         read-removed serverOf key (w .state .table) (e .key) g (not-so (λ t. n₂ k t refl)) ∙ f
     keeps-record (ended k (nothing g)) key m n₂ q f = f
@@ -98,7 +98,7 @@ module _ (w : World) (i : Inner w) where
         (λ t. inr (new ∙ rw t (ap (λ (k : List ℕ). some (pickAt w k .server)) (same-equal (e .key) key t))))
         (λ t. inl (new ∙ rw t))
     keeps-none (served k full) key f = inl f
-    keeps-none (ended k (first g t)) key f = inl (server-halved key (w .state .table) (e .key) g ∙ f)
+    keeps-none (ended k (first g t)) key f = inl (server-half key (w .state .table) (e .key) g ∙ f)
     keeps-none (ended k (next g t)) key f =
         both
         (same (e .key) key)

@@ -15,7 +15,7 @@ use Rattle.sets.proofs.Cases.{both, clash, or-left}
 use Rattle.spans.specs.Spans.{same}
 use Rattle.spans.proofs.Scans.{same-equal}
 use Rattle.table.specs.Table.{keyOf, tagOf, serverOf, usedPart, used, room, Rec, recOf, entries, find, serverAt, tagAt, newRecord, appended, without, removed, halfClosed, notNaming, removedServer, noStray}
-use Rattle.table.proofs.HalfClosed.{closedOnce, once-key, once-server, once-tag, closedAt, used-closed}
+use Rattle.table.proofs.HalfClosed.{halfRecord, half-key, half-server, half-tag, halfAt, used-half}
 use Rattle.table.proofs.Records.{used-record, server-used, used-removed, used-removedServer, new-back, tag-used}
 use Rattle.table.proofs.Finds.{First, missing-none, found-from, found-within, found-first}
 use Rattle.table.proofs.Stray.{used-appended}
@@ -70,18 +70,18 @@ module _ (f : List ℕ → ℕ) where
       both (same (keyOf r) key) (λ t. rw t) (λ t. rw t (read-without key j rs i (first-tail j r rs i p) n))
 
   read-closed-other : (key j : List ℕ) (rs : List (List ℕ)) (i : ℕ) → First j rs i → same j key ≡ false
-      → readFor key (closedAt (suc i) rs) ≡ readFor key rs
+      → readFor key (halfAt (suc i) rs) ≡ readFor key rs
   read-closed-other key j [] i p n = refl
   read-closed-other key j (r ∷ rs) zero p n =
       let e : same (keyOf r) key ≡ false = rw (same-equal (keyOf r) j (p .here)) n in
-      rw (once-key r, e)
+      rw (half-key r, e)
   read-closed-other key j (r ∷ rs) (suc i) p n =
       both (same (keyOf r) key) (λ t. rw t) (λ t. rw t (read-closed-other key j rs i (first-tail j r rs i p) n))
 
   -- the key's own record half-closed
-  read-closed : (key : List ℕ) (rs : List (List ℕ)) (i : ℕ) → First key rs i → readFor key (closedAt (suc i) rs) ≡ some (f (closedOnce (getD rs i [])))
+  read-closed : (key : List ℕ) (rs : List (List ℕ)) (i : ℕ) → First key rs i → readFor key (halfAt (suc i) rs) ≡ some (f (halfRecord (getD rs i [])))
   read-closed key [] i p = absurd (not-suc-le-zero (p .within))
-  read-closed key (r ∷ rs) zero p = rw (once-key r, p .here)
+  read-closed key (r ∷ rs) zero p = rw (half-key r, p .here)
   read-closed key (r ∷ rs) (suc i) p = rw (p .none-before 0 (omega arith)) (read-closed key rs i (first-tail key r rs i p))
 
   -- its own record taken away: where no key is recorded twice it has none then
@@ -190,8 +190,8 @@ module _ (f : List ℕ → ℕ) (key t : List ℕ) where
     pub read-removed : same j key ≡ false → readFor f key (usedPart (removed place t)) ≡ readIn
     read-removed n = rw (used-removed t place, ← counted) (read-without f key j (usedPart t) (place - 1) (found-first j t e) n)
 
-    pub read-halved : same j key ≡ false → readFor f key (usedPart (halfClosed place t)) ≡ readIn
-    read-halved n = rw (used-closed t place, ← counted) (read-closed-other f key j (usedPart t) (place - 1) (found-first j t e) n)
+    pub read-half : same j key ≡ false → readFor f key (usedPart (halfClosed place t)) ≡ readIn
+    read-half n = rw (used-half t place, ← counted) (read-closed-other f key j (usedPart t) (place - 1) (found-first j t e) n)
 
   -- the key's own
   pub read-ended : find key t .found ≡ true → Distinct (entries t) → readFor f key (usedPart (removed (find key t .reads) t)) ≡ none
@@ -200,9 +200,9 @@ module _ (f : List ℕ → ℕ) (key t : List ℕ) where
       (read-gone f key (usedPart t) (find key t .reads - 1) (found-first key t e) d)
 
   pub read-closed-own : find key t .found ≡ true
-      → readFor f key (usedPart (halfClosed (find key t .reads) t)) ≡ some (f (closedOnce (getD (usedPart t) (find key t .reads - 1) [])))
+      → readFor f key (usedPart (halfClosed (find key t .reads) t)) ≡ some (f (halfRecord (getD (usedPart t) (find key t .reads - 1) [])))
   read-closed-own e =
-      ap (readFor f key) (used-closed t (find key t .reads) ∙ ap (λ (p : ℕ). closedAt p (usedPart t)) (sym (counted key e)))
+      ap (readFor f key) (used-half t (find key t .reads) ∙ ap (λ (p : ℕ). halfAt p (usedPart t)) (sym (counted key e)))
       ∙ read-closed f key (usedPart t) (find key t .reads - 1) (found-first key t e)
 
   -- the records of the server s taken away
@@ -249,16 +249,16 @@ module _ (key t : List ℕ) where
     tag-new e = read-new tagOf key t clean left j s k h e ∙ ap (λ (r : Rec). cond (same j key) (some (r .tag)) none) (new-back j s k h)
 
   -- a half-closed record names the server that it named; its tag is 2
-  pub server-halved : (j : List ℕ) → find j t .found ≡ true → readIn serverOf key (halfClosed (find j t .reads) t) ≡ serverFor
-  server-halved j e =
+  pub server-half : (j : List ℕ) → find j t .found ≡ true → readIn serverOf key (halfClosed (find j t .reads) t) ≡ serverFor
+  server-half j e =
       both
       (same j key)
       (λ q.
       let own : find key t .found ≡ true = rw (same-equal j key q) at e in
-      rw (same-equal j key q) (read-closed-own serverOf key t own ∙ ap some (once-server (getD (usedPart t) (find key t .reads - 1) [])) ∙ sym (found-read serverOf key t own)))
-      (λ q. read-halved serverOf key t j e q)
+      rw (same-equal j key q) (read-closed-own serverOf key t own ∙ ap some (half-server (getD (usedPart t) (find key t .reads - 1) [])) ∙ sym (found-read serverOf key t own)))
+      (λ q. read-half serverOf key t j e q)
 
-  pub tag-halved : find key t .found ≡ true → readIn tagOf key (halfClosed (find key t .reads) t) ≡ some 2
-  tag-halved e =
+  pub tag-half : find key t .found ≡ true → readIn tagOf key (halfClosed (find key t .reads) t) ≡ some 2
+  tag-half e =
       read-closed-own tagOf key t e
-      ∙ ap some (once-tag (getD (usedPart t) (find key t .reads - 1) []) (used-record t _ (found-first key t e .within) .0))
+      ∙ ap some (half-tag (getD (usedPart t) (find key t .reads - 1) []) (used-record t _ (found-first key t e .within) .0))

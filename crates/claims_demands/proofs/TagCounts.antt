@@ -28,7 +28,7 @@ use Rattle.claims_demands.specs.Demands.{Engine, ours, isOf, endsSince, 
 use Rattle.claims_demands.proofs.Obeys.{ours-obeys}
 use Rattle.claims_demands.proofs.Same.{no-end, first-end, next-end}
 use Rattle.claims_demands.proofs.Witness.{clear-used}
-use Rattle.claims_demands.proofs.SteadyRecords.{readFor, tagFor, found-tag, missing-read, read-missing, read-appended, tag-new, read-removed, read-halved, read-ended, tag-halved, read-parted}
+use Rattle.claims_demands.proofs.SteadyRecords.{readFor, tagFor, found-tag, missing-read, read-missing, read-appended, tag-new, read-removed, read-half, read-ended, tag-half, read-parted}
 use Rattle.claims_demands.proofs.SteadyEvents.{known, safe, written, full, Goes, turned, served, ended, entered, left, stood, went, set, goes}
 use Rattle.claims_demands.proofs.SteadyChanges.{works-fits}
 
@@ -130,8 +130,8 @@ module _ (w : World) (s : startAccepted w ≡ true) (h : List (List ℕ)) (bytes
       both (same (e .key) key)
       (λ y.
       let n = first-counted (own y g) (rw (same-equal (e .key) key y) at one) f in
-      inr (rw (end-counted (ours w) key h bytes k y 8 (find (e .key) t .reads) a, n, same-equal (e .key) key y) (tag-halved key t (own y g))))
-      (λ y. moved _ (another-uncounted (ours w) key h bytes y) (read-halved tagOf key t (e .key) g y) f)
+      inr (rw (end-counted (ours w) key h bytes k y 8 (find (e .key) t .reads) a, n, same-equal (e .key) key y) (tag-half key t (own y g))))
+      (λ y. moved _ (another-uncounted (ours w) key h bytes y) (read-half tagOf key t (e .key) g y) f)
   counted-after (ended k (next g other)) a f =
       both (same (e .key) key)
       (λ y. inl (rw (same-equal (e .key) key y) (read-ended tagOf key t (own y g) (i .along .distinct))))

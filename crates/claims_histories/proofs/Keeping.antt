@@ -17,7 +17,7 @@ use Rattle.roster.proofs.Form.{Sized, sound-parts, held-servers, settings-sized
 use Rattle.roster.proofs.Sets.{working-state}
 use Rattle.roster.proofs.Bounds.{Below, working-below}
 use Rattle.table.specs.Table.{find, used, room, usedPart, appended, halfClosed, removed, recOf, entries, noStray}
-use Rattle.table.proofs.HalfClosed.{used-closed, length-half, clean-half}
+use Rattle.table.proofs.HalfClosed.{used-half, length-half, clean-half}
 use Rattle.table.proofs.Records.{used-removed, length-removed, length-written}
 use Rattle.table.proofs.Finds.{missing-none, missing-reads}
 use Rattle.table.proofs.Stray.{entries-appended, clean-appended, clean-removed}
@@ -27,7 +27,7 @@ use Rattle.rules.proofs.Ends.{Ends, first, next, nothing, ends}
 use Rattle.claims_histories.specs.Histories.{Distinct, AllWorking}
 use Rattle.rules.proofs.Sizes.{right-sizes}
 use Rattle.claims_histories.proofs.Inner.{Inner}
-use Rattle.claims_histories.proofs.Recorded.{recorded-nowhere, distinct-append, distinct-without, named-append, named-without, named-under, distinct-closed, named-closed}
+use Rattle.claims_histories.proofs.Recorded.{recorded-nowhere, distinct-append, distinct-without, named-append, named-without, named-under, distinct-half, named-half}
 use Rattle.claims_histories.proofs.Drawing.{drawn-again, drawn-length, drawn-none, none-held, refilled-again, refilled-lengths, refilled-cleared, cleared-lengths}
 
 -- a working server of the roster is one of 4 bytes
@@ -92,9 +92,9 @@ module _ (w : World) (i : Inner w) where
   ended-keeps key (first f tag) =
       let t = w .state .table in
       let p = find key t .reads in
-      part-keeps (halfClosed p t) (used-closed t p) (length-half t p) (clean-half t p ∙ i .along .clean)
-      (distinct-closed p (usedPart t) (i .along .distinct))
-      (named-closed (w .state .roster) p (usedPart t) (i .along .named))
+      part-keeps (halfClosed p t) (used-half t p) (length-half t p) (clean-half t p ∙ i .along .clean)
+      (distinct-half p (usedPart t) (i .along .distinct))
+      (named-half (w .state .roster) p (usedPart t) (i .along .named))
   ended-keeps key (next f tag) =
       let t = w .state .table in
       let p = find key t .reads in

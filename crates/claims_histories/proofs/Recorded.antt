@@ -12,7 +12,7 @@ use Rattle.spans.specs.Spans.{same}
 use Rattle.spans.proofs.Scans.{same-equal, same-self}
 use Rattle.roster.specs.declared.Roster.{Roster}
 use Rattle.roster.specs.Roster.{stateOf, working}
-use Rattle.table.proofs.HalfClosed.{once-key, once-server, closedAt}
+use Rattle.table.proofs.HalfClosed.{half-key, half-server, halfAt}
 use Rattle.table.specs.Table.{keyOf, serverOf, Rec, recOf, without, notNaming}
 use Rattle.claims_histories.specs.Histories.{recorded, Distinct, AllWorking}
 
@@ -122,21 +122,21 @@ named-notNaming r r′ s (x ∷ rs) f a =
     (λ u. rw u (f (serverOf x) u (a .0), named-notNaming r r′ s rs f (a .1)))
 
 -- a record half-closed: its key stays, and so does its server
-recorded-closed : (key : List ℕ) (place : ℕ) (rs : List (List ℕ))
-    → recorded key (map recOf (closedAt place rs)) ≡ recorded key (map recOf rs)
-recorded-closed key zero rs = refl
-recorded-closed key (suc i) [] = refl
-recorded-closed key (suc zero) (r ∷ rs) = rw (once-key r)
-recorded-closed key (suc (suc i)) (r ∷ rs) = rw (recorded-closed key (suc i) rs)
+recorded-half : (key : List ℕ) (place : ℕ) (rs : List (List ℕ))
+    → recorded key (map recOf (halfAt place rs)) ≡ recorded key (map recOf rs)
+recorded-half key zero rs = refl
+recorded-half key (suc i) [] = refl
+recorded-half key (suc zero) (r ∷ rs) = rw (half-key r)
+recorded-half key (suc (suc i)) (r ∷ rs) = rw (recorded-half key (suc i) rs)
 
-pub distinct-closed : (place : ℕ) (rs : List (List ℕ)) → Distinct (map recOf rs) → Distinct (map recOf (closedAt place rs))
-distinct-closed zero rs d = d
-distinct-closed (suc i) [] d = tt
-distinct-closed (suc zero) (r ∷ rs) d = (rw (once-key r) (d .0), d .1)
-distinct-closed (suc (suc i)) (r ∷ rs) d = (recorded-closed (keyOf r) (suc i) rs ∙ d .0, distinct-closed (suc i) rs (d .1))
+pub distinct-half : (place : ℕ) (rs : List (List ℕ)) → Distinct (map recOf rs) → Distinct (map recOf (halfAt place rs))
+distinct-half zero rs d = d
+distinct-half (suc i) [] d = tt
+distinct-half (suc zero) (r ∷ rs) d = (rw (half-key r) (d .0), d .1)
+distinct-half (suc (suc i)) (r ∷ rs) d = (recorded-half (keyOf r) (suc i) rs ∙ d .0, distinct-half (suc i) rs (d .1))
 
-pub named-closed : (r : Roster) (place : ℕ) (rs : List (List ℕ)) → AllWorking r (map recOf rs) → AllWorking r (map recOf (closedAt place rs))
-named-closed r zero rs a = a
-named-closed r (suc i) [] a = tt
-named-closed r (suc zero) (x ∷ rs) a = (rw (once-server x) (a .0), a .1)
-named-closed r (suc (suc i)) (x ∷ rs) a = (a .0, named-closed r (suc i) rs (a .1))
+pub named-half : (r : Roster) (place : ℕ) (rs : List (List ℕ)) → AllWorking r (map recOf rs) → AllWorking r (map recOf (halfAt place rs))
+named-half r zero rs a = a
+named-half r (suc i) [] a = tt
+named-half r (suc zero) (x ∷ rs) a = (rw (half-server x) (a .0), a .1)
+named-half r (suc (suc i)) (x ∷ rs) a = (a .0, named-half r (suc i) rs (a .1))

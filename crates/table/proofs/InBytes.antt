@@ -1,4 +1,5 @@
--- Document 01's sentences about the table, said of its bytes: a definition and the code that were wrong together would break them.
+-- The sentences of document 01 and of request [1] about the table, said of its bytes: a definition and the code that were wrong together would break
+-- them.
 use Prim.Native.Nat.{ℕ, suc, _+_, _*_, _-_, _<_, _≤_}
 use mathlib.Core.Bool.{true, cond}
 use mathlib.Core.List.{List, [], _∷_, _++_, append-assoc}
