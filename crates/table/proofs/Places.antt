@@ -2,6 +2,7 @@
 use Prim.Native.Nat.{ℕ, zero, suc, _+_, _*_, _-_, _/_, _<_, _≤_}
 use mathlib.Core.Bool.{true, false, cond}
 use mathlib.Core.List.{List, [], _∷_}
+use mathlib.Core.Logic.{_⊎_, ⊎-elim}
 use mathlib.Core.Path.{_≡_, refl, sym, ap, _∙_}
 use native.Mathlib.Nat.{not-suc-le-zero, le-of-suc-le-suc}
 use native.Mathlib.Numerals.{add-one}
@@ -87,15 +88,11 @@ count-end t i h = rw (records-end t i h)
 none-at : (t : List ℕ) (i : ℕ) → room t < suc i → getD (recordsOf t) i [] ≡ []
 none-at t i h = List·getD-eq-default (recordsOf t) [] {n = i} (omega (arith, length-records t))
 
--- the server at a place: at place 0, behind the last place, and in between
-pub server-none : (t : List ℕ) → 0 ≡ serverAt 0 t
-unfolding serverAt
-server-none t = refl
-
-pub server-out : (t : List ℕ) (place : ℕ) → room t < place → 0 ≡ serverAt place t
-unfolding serverAt
-server-out t zero h = refl
-server-out t (suc i) h = rw (none-at t i h)
+-- the server and the tag at a place: at place 0 and behind the last place there are none, and in between they are read off the bytes
+pub nothing-at : (t : List ℕ) (place : ℕ) → (place ≡ 0) ⊎ (room t < place) → (0 ≡ serverAt place t) × (0 ≡ tagAt place t)
+unfolding serverAt tagAt
+nothing-at t zero o = (refl, refl)
+nothing-at t (suc i) o = let n = none-at t i (⊎-elim (λ z. absurd (omega arith)) (λ h. h) o) in (rw n, rw n)
 
 pub server-in : (t : List ℕ) (place a : ℕ) → (place ≡ 0 → ⊥) → place ≤ room t → a ≡ (place - 1) * 20 + 16 → number4At t a ≡ serverAt place t
 unfolding serverAt
@@ -105,16 +102,6 @@ server-in t (suc i) a n h e =
     let q : a ≡ i * 20 + 16 = omega arith in
     let up : (j : ℕ) → a + j ≡ i * 20 + (16 + j) = λ j. omega arith in
     rw (up 1, up 2, up 3, q, at 16 (omega arith), at 17 (omega arith), at 18 (omega arith), at 19 (omega arith))
-
--- the tag at a place, likewise
-pub tag-none : (t : List ℕ) → 0 ≡ tagAt 0 t
-unfolding tagAt
-tag-none t = refl
-
-pub tag-out : (t : List ℕ) (place : ℕ) → room t < place → 0 ≡ tagAt place t
-unfolding tagAt
-tag-out t zero h = refl
-tag-out t (suc i) h = rw (none-at t i h)
 
 pub tag-in : (t : List ℕ) (place a : ℕ) → (place ≡ 0 → ⊥) → place ≤ room t → a ≡ (place - 1) * 20 + 13 → getD t a 0 ≡ tagAt place t
 unfolding tagAt

@@ -1,5 +1,5 @@
 -- `changes::end` meets its contract, one case for each way of an end.
-use mathlib.Core.Path.{sym, _∙_}
+use native.Mathlib.Omega.{arith}
 use Rattle.changes.proofs.ByKind.{end-8, end-5, end-6}
 use borrow.Author.Needs.{needs}
 use Rattle.changes.proofs.end.Statement.{statement}
@@ -24,7 +24,7 @@ returns c =
     let i = m .before .before in
     let x = i .before .before .before .before .found .given in
     let p = i .before .before .before .before .before .before .before .args in
-    rw (x .1, m .half-close .ensures) (end-8 key (p .table .now) rows flags pick r (x .0 .0) (sym (i .before .tag-at .ensures) ∙ i .if1 .taken))
+    rw (x .1, m .half-close .ensures) (end-8 key (p .table .now) rows flags pick r (x .0 .0) (omega (arith, i .before .tag-at .ensures, i .if1 .taken)))
 
 remove-requires : tie.Need-remove-requires
 remove-requires c κs = search needs
@@ -42,7 +42,7 @@ returns-2 c =
     let i = m .before .before in
     let x = i .before .before .before .before .found .given in
     let p = i .before .before .before .before .before .before .before .args in
-    rw (x .1, m .remove .ensures) (end-5 key (p .table .now) rows flags pick r (x .0 .0) (λ e. i .if1 .left (i .before .tag-at .ensures ∙ e)))
+    rw (x .1, m .remove .ensures) (end-5 key (p .table .now) rows flags pick r (x .0 .0) (λ e. omega (arith, i .before .tag-at .ensures, i .if1 .left)))
 
 returns-3 : tie.Need-returns-3
 returns-3 c =

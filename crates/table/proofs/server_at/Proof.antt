@@ -1,7 +1,8 @@
 -- `table::server_at` meets its contract, one case for each return.
+use mathlib.Core.Logic.{inl, inr}
 use mathlib.Core.Path.{refl, _∙_}
 use native.Mathlib.Omega.{arith}
-use Rattle.table.proofs.Places.{server-none, server-out, server-in}
+use Rattle.table.proofs.Places.{nothing-at, server-in}
 use borrow.Author.Needs.{needs}
 use Rattle.table.proofs.server_at.Statement.{statement}
 use Rattle.table.proofs.server_at.Tie as tie
@@ -9,12 +10,12 @@ use Rattle.table.proofs.server_at.Tie as tie
 returns : tie.Need-returns
 returns c =
     let p = c .before .before .args in
-    rw (c .if1 .taken) (server-none (p .table .now))
+    nothing-at (p .table .now) (p .place) (inl (c .if1 .taken)) .0
 
 returns-2 : tie.Need-returns-2
 returns-2 c =
     let p = c .before .before .before .args in
-    server-out (p .table .now) (p .place) (omega arith)
+    nothing-at (p .table .now) (p .place) (inr (omega arith)) .0
 
 sub-at : tie.Need-sub-at
 sub-at c = search needs

@@ -1,7 +1,8 @@
 -- `table::tag_at` meets its contract, one case for each return.
+use mathlib.Core.Logic.{inl, inr}
 use mathlib.Core.Path.{refl}
 use native.Mathlib.Omega.{arith}
-use Rattle.table.proofs.Places.{tag-none, tag-out, tag-in}
+use Rattle.table.proofs.Places.{nothing-at, tag-in}
 use borrow.Author.Needs.{needs}
 use Rattle.table.proofs.tag_at.Statement.{statement}
 use Rattle.table.proofs.tag_at.Tie as tie
@@ -9,12 +10,12 @@ use Rattle.table.proofs.tag_at.Tie as tie
 returns : tie.Need-returns
 returns c =
     let p = c .before .args in
-    rw (c .if1 .taken) (tag-none (p .table .now))
+    nothing-at (p .table .now) (p .place) (inl (c .if1 .taken)) .1
 
 returns-2 : tie.Need-returns-2
 returns-2 c =
     let p = c .before .before .args in
-    tag-out (p .table .now) (p .place) (omega arith)
+    nothing-at (p .table .now) (p .place) (inr (omega arith)) .1
 
 sub-result : tie.Need-sub-result
 sub-result c = search needs
