@@ -1,0 +1,2 @@
+pub mod Captures
+pub mod Reading
