@@ -16,17 +16,7 @@ use Rattle.pcap.specs.Captures.{headerRefusal, lowFirst, ethernet, whole
 
 -- a reader that has read nothing
 abbrev pub nothing : Tally
-nothing =
-    record {
-      due = false;
-      read = 0;
-      emitted = 0;
-      linktype = 0;
-      notipv4 = 0;
-      fragment = 0;
-      other = 0;
-      short = 0;
-    }
+nothing = record { due = false; read = 0; emitted = 0; linktype = 0; notipv4 = 0; fragment = 0; other = 0; short = 0 }
 
 -- a sum with one more where a packet has its outcome; a sum is kept in 64 bits
 abbrev pub oneMore : Bool → ℕ → ℕ

@@ -2,8 +2,9 @@
 ghost use mathlib.Core.Path.{_≡_};
 ghost use mathlib.Core.Bool.{cond};
 ghost use Prim.Native.Nat.{_+_, _≤_};
+ghost use lib.Dec.{ltb};
 ghost use lib.ListN.{length};
-ghost use Rattle.pcap.specs.Captures.{headerRefusal, lowFirst, numberBy, ethernet, whole, recordSize, headerBytes};
+ghost use Rattle.pcap.specs.Captures.{headerRefusal, lowFirst, numberBy, ethernet, whole, captured, recordSize, headerBytes, recordBytes};
 
 // The bytes of the file's header, and of a packet record's.
 pub(crate) const HEADER_BYTES: usize = 24;
@@ -37,11 +38,13 @@ pub(crate) fn header_refusal(bytes: &[u8]) -> u8
     0
 }
 
-// Whether numbers stand with the lowest byte first.
-pub(crate) fn low_first(bytes: &[u8]) -> bool
-    requires { ⌜ headerBytes ≤ length (now bytes) ⌝ }
+// Whether a capture's numbers stand with the lowest byte first.
+pub fn low_first(bytes: &[u8]) -> bool
     ensures { λ r. ⌜ r ≡ lowFirst (now (bytes .entry)) ⌝ }
 {
+    if bytes.len() < 4 {
+        return false;
+    }
     bigendian::join4(bytes[0], bytes[1], bytes[2], bytes[3]) == LOW_FIRST
 }
 
@@ -64,6 +67,16 @@ pub(crate) fn is_ethernet(low: bool, bytes: &[u8]) -> bool
     number(low, bytes, 20) == ETHERNET
 }
 
+// The captured length in the packet record that bytes begin with; 0 where they are fewer than the record's header.
+pub fn captured_length(low: bool, bytes: &[u8]) -> usize
+    ensures { λ r. ⌜ r ≡ cond (ltb (length (now (bytes .entry))) recordBytes) 0 (captured low (now (bytes .entry))) ⌝ }
+{
+    if bytes.len() < RECORD_BYTES {
+        return 0;
+    }
+    number(low, bytes, 8) as usize
+}
+
 // The size of the packet record that bytes begin with, or 0 where it isn't whole.
 pub(crate) fn record_size(low: bool, bytes: &[u8]) -> usize
     ensures { λ r. ⌜ r ≡ cond (whole low (now (bytes .entry))) (recordSize low (now (bytes .entry))) 0 ⌝ }
@@ -71,7 +84,7 @@ pub(crate) fn record_size(low: bool, bytes: &[u8]) -> usize
     if bytes.len() < RECORD_BYTES {
         return 0;
     }
-    let captured = number(low, bytes, 8) as usize;
+    let captured = captured_length(low, bytes);
     if captured > bytes.len() - RECORD_BYTES {
         return 0;
     }
