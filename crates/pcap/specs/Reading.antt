@@ -23,7 +23,7 @@ abbrev pub oneMore : Bool → ℕ → ℕ
 oneMore here n = cond here ((n + 1) % 2 ^ 64) n
 
 -- the sums with one packet more, of an outcome; whether its end is still to come
-abbrev pub withOne : ℕ → Bool → Tally → Tally
+unfoldable pub withOne : ℕ → Bool → Tally → Tally
 withOne why due s =
     record {
       due = due;
@@ -68,13 +68,14 @@ meets o at next s =
     (gives packetKind o next (withOne emitted false s)))
     (silent (Skipped (o .reason)) next (withOne (o .reason) false s))
 
--- at a place: the header's refusal; no more bytes; a record that isn't whole; a packet
+-- at a packet record, where it is whole
+unfoldable pub recordAt : Bool → Bool → List ℕ → ℕ → Tally → Step
+recordAt ether low bytes at s =
+    cond (whole low bytes) (meets (outcome ether (packet low bytes)) at (at + recordSize low bytes) s) (silent (Refused shortRecord) at s)
+
+-- at a place: the header's refusal; no more bytes; or a packet record
 unfoldable pub stepAt : List ℕ → ℕ → Tally → Step
 stepAt f at s =
     cond (eqb (headerRefusal f) 0)
-    (cond (ltb at (length f))
-    (cond (whole (lowFirst f) (drop at f))
-    (meets (outcome (ethernet f) (packet (lowFirst f) (drop at f))) at (at + recordSize (lowFirst f) (drop at f)) s)
-    (silent (Refused shortRecord) at s))
-    (silent Finished at s))
+    (cond (ltb at (length f)) (recordAt (ethernet f) (lowFirst f) (drop at f) at s) (silent Finished at s))
     (silent (Refused (headerRefusal f)) at s)

@@ -4,7 +4,7 @@ ghost use mathlib.Core.Bool.{cond};
 ghost use Prim.Native.Nat.{_+_, _≤_};
 ghost use lib.Dec.{ltb};
 ghost use lib.ListN.{length};
-ghost use Rattle.pcap.specs.Captures.{headerRefusal, lowFirst, numberBy, ethernet, whole, captured, recordSize, headerBytes, recordBytes};
+ghost use Rattle.pcap.specs.Captures.{headerRefusal, lowFirst, numberBy, ethernet, whole, captured, recordSize, headerBytes, recordBytes, shortHeader};
 
 // The bytes of the file's header, and of a packet record's.
 pub(crate) const HEADER_BYTES: usize = 24;
@@ -27,11 +27,19 @@ pub(crate) fn header_refusal(bytes: &[u8]) -> u8
         return 21;
     }
     let magic = bigendian::join4(bytes[0], bytes[1], bytes[2], bytes[3]);
-    if magic != LOW_FIRST {
-        if magic != HIGH_FIRST {
-            return 20;
-        }
+    if magic == LOW_FIRST {
+        return short_header(bytes);
     }
+    if magic == HIGH_FIRST {
+        return short_header(bytes);
+    }
+    20
+}
+
+// The refusal of a header that isn't all there, or 0.
+fn short_header(bytes: &[u8]) -> u8
+    ensures { λ r. ⌜ r ≡ cond (ltb (length (now (bytes .entry))) headerBytes) shortHeader 0 ⌝ }
+{
     if bytes.len() < HEADER_BYTES {
         return 21;
     }

@@ -1,8 +1,9 @@
 // What the reader does at a place, over plain bytes and numbers.
 ghost use mathlib.Core.Path.{_≡_};
 ghost use mathlib.Core.Bool.{Bool};
+ghost use Prim.Native.Nat.{_+_, _<_, _^_};
 ghost use lib.ListN.{length};
-ghost use Rattle.pcap.specs.Reading.{stepAt, meets, silent as silent-of, gives as gives-of, withOne, withoutEnd, oneMore};
+ghost use Rattle.pcap.specs.Reading.{stepAt, recordAt, meets, silent as silent-of, gives as gives-of, withOne, withoutEnd, oneMore};
 ghost use Rattle.pcap.specs.Captures.{eventRecord};
 use crate::Said;
 use crate::Step;
@@ -24,12 +25,19 @@ pub fn step_at(bytes: &[u8], at: usize, tally: Tally) -> Step
         return silent(Said::Finished, at, tally);
     }
     let low = file::low_first(bytes);
-    let rest: &[u8] = &bytes[at..];
-    let size = file::record_size(low, rest);
+    record_at(file::is_ethernet(low, bytes), low, &bytes[at..], at, tally)
+}
+
+// What a packet record at a place gives, where it is whole; `bytes` begin with it.
+fn record_at(ethernet: bool, low: bool, bytes: &[u8], at: usize, tally: Tally) -> Step
+    requires { ⌜ at + length (now bytes) < 2 ^ 64 ⌝ }
+    ensures { λ r. ⌜ r ≡ recordAt ethernet low (now (bytes .entry)) at tally ⌝ }
+{
+    let size = file::record_size(low, bytes);
     if size == 0 {
         return silent(Said::Refused(22), at, tally);
     }
-    let outcome = frames::judge(file::is_ethernet(low, bytes), &rest[RECORD_BYTES..size]);
+    let outcome = frames::judge(ethernet, &bytes[RECORD_BYTES..size]);
     meet(outcome, at, at + size, tally)
 }
 
