@@ -15,10 +15,12 @@ The digest of bytes is FNV-1a 64; that of a changed byte is the same step over t
 becomes itself xor 1, xor 2, .. xor 255. The ways: pieces of each constant length from 1 to the capture's; and, for a capture of at most
 TWO_CUTS bytes, two cuts at each pair of places a <= b from 0 to its length.
 """
+import os
 import sys
 
 import capture
 
+CAPTURES = os.path.join(os.path.dirname(os.path.dirname(os.path.abspath(__file__))), "captures")
 BUFFERS = (128, 129, 150, 200, 400, 1000, 2048)
 TWO_CUTS = 400
 OFFSET, PRIME, BELOW = 14695981039346656037, 1099511628211, 2**64 - 1
@@ -57,6 +59,17 @@ def file_of(order, packets, link_type=1):
     return out
 
 
+def piece(name, *wanted):
+    """Of a capture of tests/captures, its file header and for each wish the first record whose packet is as wished."""
+    with open(os.path.join(CAPTURES, name), "rb") as file:
+        data = file.read()
+    out = data[:capture.FILE_HEADER]
+    for wish in wanted:
+        at, captured = next(record for record in capture.records(data) if capture.reason(1, record[1]) is None and wish(record[1]))
+        out += data[at:at + capture.RECORD_HEADER + len(captured)]
+    return out
+
+
 def captures():
     """The captures, each for what it has in it. Where a packet is cut, it is cut at one side of a limit."""
     options = ethernet(ipv4(TCP, tcp(40000, 443, FIN | ACK), words=15))
@@ -85,6 +98,8 @@ def captures():
         # packets longer than a small buffer, of an emitted and of a skipped one, and a session's end behind them
         file_of("little", [ethernet(ipv4(UDP, udp(500, 4500, bytes(range(256))))), ethernet(bytes(140), kind=0x88CC),
                            ethernet(ipv4(TCP, tcp(9, 10, FIN, b"bye")))]),
+        # what tcpdump wrote: the longest IP header, and a session's end
+        piece("big-endian.pcap", lambda captured: capture.behind_ip(captured) == 74, capture.has_fin),
     ]
 
 
