@@ -2,11 +2,15 @@
 // far as they have come. Events go from there into a second buffer.
 mod fill;
 mod settle;
+mod stream;
 
 pub use fill::fill_events;
 use pcap::Said;
 use pcap::Tally;
 pub use settle::settle;
+pub use stream::advance;
+pub use stream::begin;
+pub use stream::end;
 
 // Events that were put into a buffer: how many bytes they take, and where the reader stopped. It says `Event` where the
 // buffer is full: there may be more.
@@ -23,4 +27,29 @@ pub struct Kept {
     pub have: usize,
     pub pass: usize,
     pub longer: usize,
+}
+
+// A capture of which pieces have come. The buffer's first `have` bytes are the window; `tally` is what was given so far, and
+// `said` what the reader said last: `Event` where there was no room for all events. While a packet that is too long for the
+// buffer comes in, the next `pass` bytes of the capture belong to it, and it is `longer` there than in the window. `before`
+// bytes of packet records are done.
+pub struct Stream {
+    pub have: usize,
+    pub pass: usize,
+    pub longer: usize,
+    pub before: u64,
+    pub tally: Tally,
+    pub said: Said,
+}
+
+// A stream after a piece was taken in, and how many bytes of event records stand in the second buffer.
+pub struct Advanced {
+    pub stream: Stream,
+    pub filled: usize,
+}
+
+// What a capture that has ended is refused by, 0 where it isn't, and the byte where the refusal stands.
+pub struct Ending {
+    pub refusal: u8,
+    pub at: u64,
 }
