@@ -1,8 +1,8 @@
 // The events of a window, put into a buffer one after the other.
 ghost use mathlib.Core.Path.{_≡_};
-ghost use mathlib.Core.List.{_++_};
 ghost use Prim.Native.Nat.{_+_, _≤_};
-ghost use lib.ListN.{length, take, drop};
+ghost use lib.ListN.{length};
+ghost use lib.Seq.{paste};
 ghost use Rattle.pieces.specs.Pieces.{readOn, enough, roomFor, filledBy, written};
 use crate::Filled;
 use event::EVENT_BYTES;
@@ -20,11 +20,12 @@ pub fn fill_events(bytes: &[u8], at: usize, tally: Tally, out: &mut [u8]) -> Fil
     while EVENT_BYTES <= out.len() - filled {
         let step = pcap::read_on(bytes, place, sums);
         let said = step.said;
+        let event = step.event;
         place = step.at;
         sums = step.tally;
         match said {
             Said::Event => {
-                put(out, filled, step.event);
+                put(out, filled, event);
                 filled += EVENT_BYTES;
             }
             Said::Skipped(_) => {}
@@ -49,7 +50,7 @@ pub fn fill_events(bytes: &[u8], at: usize, tally: Tally, out: &mut [u8]) -> Fil
 // Puts an event record into a buffer at a place.
 fn put(out: &mut [u8], at: usize, event: [u8; 16])
     requires { ⌜ at + 16 ≤ length (now out) ⌝ }
-    ensures { λ _. ⌜ now (out .exit) ≡ take at (now (out .entry)) ++ (event ++ drop (at + 16) (now (out .entry))) ⌝ }
+    ensures { λ _. ⌜ now (out .exit) ≡ paste (now (out .entry)) at event 16 ⌝ }
 {
     let mut i = 0;
     while i < 16 {

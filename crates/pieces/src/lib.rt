@@ -1,16 +1,16 @@
 // A capture of any length, in a buffer of one length: the buffer holds the file's header and, behind it, packet records as
 // far as they have come. Events go from there into a second buffer.
+mod feed;
 mod fill;
-mod settle;
-mod stream;
+mod keep;
 
+pub use feed::advance;
+pub use feed::begin;
+pub use feed::end;
 pub use fill::fill_events;
+pub use keep::settle;
 use pcap::Said;
 use pcap::Tally;
-pub use settle::settle;
-pub use stream::advance;
-pub use stream::begin;
-pub use stream::end;
 
 // Events that were put into a buffer: how many bytes they take, and where the reader stopped. It says `Event` where the
 // buffer is full: there may be more.

@@ -70,8 +70,13 @@ fn put_length(buffer: &mut [u8], low: bool)
     requires { ⌜ (36 ≤ length (now buffer)) × (low ≡ lowFirst (now buffer)) ⌝ }
     ensures { λ _. ⌜ now (buffer .exit) ≡ trimmed (now (buffer .entry)) ⌝ }
 {
-    buffer[32] = if low { 88 } else { 0 };
     buffer[33] = 0;
     buffer[34] = 0;
-    buffer[35] = if low { 0 } else { 88 };
+    if low {
+        buffer[32] = 88;
+        buffer[35] = 0;
+        return;
+    }
+    buffer[32] = 0;
+    buffer[35] = 88;
 }

@@ -11,7 +11,7 @@ use crate::Advanced;
 use crate::Ending;
 use crate::Stream;
 use crate::fill;
-use crate::settle;
+use crate::keep;
 use pcap::Said;
 
 const HEADER_BYTES: usize = 24;
@@ -104,17 +104,20 @@ fn window(buffer: &mut [u8], out: &mut [u8], stream: Stream) -> Advanced
     ensures { λ _. ⌜ now (out .exit) ≡ (windowDone (now (buffer .entry)) (now (out .entry)) stream) .out ⌝ }
 {
     let have = stream.have;
+    let before = stream.before;
     let done = fill::fill_events(&buffer[..have], HEADER_BYTES, stream.tally, out);
     let at = done.at;
-    let kept = settle::settle(buffer, have, at);
+    let tally = done.tally;
+    let said = done.said;
+    let kept = keep::settle(buffer, have, at);
     Advanced {
         stream: Stream {
             have: kept.have,
             pass: kept.pass,
             longer: kept.longer,
-            before: std::num::wrapping_add_u64(stream.before, records_before(at)),
-            tally: done.tally,
-            said: done.said,
+            before: std::num::wrapping_add_u64(before, records_before(at)),
+            tally: tally,
+            said: said,
         },
         filled: done.filled,
     }
@@ -139,7 +142,8 @@ pub fn end(buffer: &[u8], stream: Stream) -> Ending
     }
     let have = lower(stream.have, buffer.len());
     let last = pcap::read_on(&buffer[..have], HEADER_BYTES, stream.tally);
-    refused(number(last.said), stream.before)
+    let said = last.said;
+    refused(number(said), stream.before)
 }
 
 // A refusal, and where it stands.
