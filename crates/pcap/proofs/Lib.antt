@@ -1,1 +1,4 @@
 pub mod Files
+pub mod Readers
+pub mod ReaderCalls
+pub mod UniqueReaders
