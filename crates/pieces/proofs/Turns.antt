@@ -17,7 +17,7 @@ use Rattle.pcap.specs.declared.Said.the-variants.{Event, Skipped, Finished, Ref
 use Rattle.pcap.specs.declared.Tally.{Tally}
 use Rattle.pcap.specs.declared.Step.{Step}
 use Rattle.pcap.specs.Captures.{headerRefusal, lowFirst, ethernet, whole, packet, recordSize, recordBytes, shortRecord}
-use Rattle.pcap.specs.Reading.{stepAt, meets, silent}
+use Rattle.pcap.specs.Reading.{stepAt, recordAt, withOne, meets, silent}
 use Rattle.pieces.specs.Pieces.{Ran, stopped, withEvent, bySaid, readOn, enough}
 
 -- ---- the reader moves on
@@ -52,7 +52,7 @@ whole-behind low f at h w =
 -- a packet: either the reader goes behind it, or it stays and the packet's end is due
 meets-ahead : (f : List ℕ) (o : Outcome) (at next : ℕ) (t : Tally) → Behind f at next
     → ahead f ((meets o at next t) .at) ((meets o at next t) .tally) < ahead f at t
-unfolding meets
+unfolding meets withOne
 meets-ahead f o at next t b =
     both (eqb (o .reason) emitted) (λ e. rw e
     (both (o .fin) (λ fin. rw fin
@@ -71,7 +71,7 @@ pub data Meeting (f : List ℕ) (at : ℕ) (t : Tally) : Step → Type 0 where
       (meets (outcome (ethernet f) (packet (lowFirst f) (drop at f))) at (at + recordSize (lowFirst f) (drop at f)) t)
 
 pub meeting : (f : List ℕ) (at : ℕ) (t : Tally) → Meeting f at t (stepAt f at t)
-unfolding stepAt
+unfolding stepAt recordAt
 meeting f at t =
     both (eqb (headerRefusal f) 0) (λ sound. rw sound
     (both (ltb at (length f)) (λ more. rw more

@@ -82,8 +82,11 @@ tooLong b kept =
     cond (ltb kept (recordBytes + mostRead)) false (ltb (length b) (headerBytes + recordSize (lowFirst b) (drop headerBytes b)))
 
 -- 88 in the file's byte order, at the place of the captured length
+abbrev pub mostReadBytes : Bool → List ℕ
+mostReadBytes low = cond low (mostRead ∷ 0 ∷ 0 ∷ 0 ∷ []) (0 ∷ 0 ∷ 0 ∷ mostRead ∷ [])
+
 abbrev pub trimmed : List ℕ → List ℕ
-trimmed b = take 32 b ++ (cond (lowFirst b) (mostRead ∷ 0 ∷ 0 ∷ 0 ∷ []) (0 ∷ 0 ∷ 0 ∷ mostRead ∷ []) ++ drop 36 b)
+trimmed b = take 32 b ++ (mostReadBytes (lowFirst b) ++ drop 36 b)
 
 -- the places make sense: the header, then what was read, then the window's end, then the buffer's
 abbrev pub inOrder : List ℕ → ℕ → ℕ → Bool

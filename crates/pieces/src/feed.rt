@@ -167,8 +167,10 @@ fn number(said: Said) -> u8
     ensures { λ r. ⌜ r ≡ lastSaid said ⌝ }
 {
     match said {
+        Said::Event => 0,
+        Said::Skipped(_) => 0,
+        Said::Finished => 0,
         Said::Refused(n) => n,
-        _ => 0,
     }
 }
 

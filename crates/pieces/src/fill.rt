@@ -29,20 +29,25 @@ pub fn fill_events(bytes: &[u8], at: usize, tally: Tally, out: &mut [u8]) -> Fil
                 filled += EVENT_BYTES;
             }
             Said::Skipped(_) => {}
-            _ => {
-                return Filled {
-                    said: said,
-                    at: place,
-                    tally: sums,
-                    filled: filled,
-                };
+            Said::Finished => {
+                return stopped(Said::Finished, place, sums, filled);
+            }
+            Said::Refused(n) => {
+                return stopped(Said::Refused(n), place, sums, filled);
             }
         }
     }
+    stopped(Said::Event, place, sums, filled)
+}
+
+// Where the reader stopped, and what the buffer holds then.
+fn stopped(said: Said, at: usize, tally: Tally, filled: usize) -> Filled
+    ensures { λ r. ⌜ r ≡ record { said = said; at = at; tally = tally; filled = filled } ⌝ }
+{
     Filled {
-        said: Said::Event,
-        at: place,
-        tally: sums,
+        said: said,
+        at: at,
+        tally: tally,
         filled: filled,
     }
 }

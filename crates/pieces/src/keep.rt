@@ -4,7 +4,7 @@ ghost use Prim.Native.Nat.{_+_, _-_, _≤_};
 ghost use lib.ListN.{length};
 ghost use Rattle.pcap.specs.Captures.{lowFirst};
 ghost use mathlib.Core.Bool.{cond};
-ghost use Rattle.pieces.specs.Pieces.{settledBuffer, settledKept, tooLong, trimmed, keptFirst, keptAll};
+ghost use Rattle.pieces.specs.Pieces.{settledBuffer, settledKept, tooLong, trimmed, mostReadBytes, keptFirst, keptAll};
 use crate::Kept;
 
 const HEADER_BYTES: usize = 24;
@@ -70,13 +70,19 @@ fn put_length(buffer: &mut [u8], low: bool)
     requires { ⌜ (36 ≤ length (now buffer)) × (low ≡ lowFirst (now buffer)) ⌝ }
     ensures { λ _. ⌜ now (buffer .exit) ≡ trimmed (now (buffer .entry)) ⌝ }
 {
-    buffer[33] = 0;
-    buffer[34] = 0;
+    let bytes = length_bytes(low);
+    buffer[32] = bytes[0];
+    buffer[33] = bytes[1];
+    buffer[34] = bytes[2];
+    buffer[35] = bytes[3];
+}
+
+// 88 as four bytes.
+fn length_bytes(low: bool) -> [u8; 4]
+    ensures { λ r. ⌜ r ≡ mostReadBytes low ⌝ }
+{
     if low {
-        buffer[32] = 88;
-        buffer[35] = 0;
-        return;
+        return [88, 0, 0, 0];
     }
-    buffer[32] = 0;
-    buffer[35] = 88;
+    [0, 0, 0, 88]
 }
