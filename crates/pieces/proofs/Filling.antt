@@ -42,17 +42,17 @@ unfolding joined
 written-more e r filled out sized room =
     let n = 16 * length (r .events) in
     let early : take (filled + 16) (paste out filled e 16) ≡ take filled out ++ e =
-        take-paste out filled e 16 (omega arith) (omega arith) ∙ ap (λ (l : List ℕ). take filled out ++ l) (take-all 16 e (omega arith)) in
+    take-paste out filled e 16 (omega arith) (omega arith) ∙ ap (λ (l : List ℕ). take filled out ++ l) (take-all 16 e (omega arith)) in
     let far : filled + 16 + n ≡ filled + 16 * suc (length (r .events)) = omega arith in
     let late : drop (filled + 16 + n) (paste out filled e 16) ≡ drop (filled + 16 * suc (length (r .events))) out =
-        sym (drop-drop n (filled + 16) (paste out filled e 16))
-        ∙ ap (drop n) (drop-paste out filled e 16 (omega arith) (omega arith))
-        ∙ drop-drop n (filled + 16) out
-        ∙ ap (λ (k : ℕ). drop k out) far in
+    sym (drop-drop n (filled + 16) (paste out filled e 16))
+    ∙ ap (drop n) (drop-paste out filled e 16 (omega arith) (omega arith))
+    ∙ drop-drop n (filled + 16) out
+    ∙ ap (λ (k : ℕ). drop k out) far in
     ap (λ (l : List ℕ). take filled out ++ l) (append-assoc e (joined (r .events)) (drop (filled + 16 * suc (length (r .events))) out))
     ∙ sym (append-assoc (take filled out) e (joined (r .events) ++ drop (filled + 16 * suc (length (r .events))) out))
     ∙ sym (ap (λ (l : List ℕ). l ++ (joined (r .events) ++ drop (filled + 16 + n) (paste out filled e 16))) early
-      ∙ ap (λ (l : List ℕ). (take filled out ++ e) ++ (joined (r .events) ++ l)) late)
+    ∙ ap (λ (l : List ℕ). (take filled out ++ e) ++ (joined (r .events) ++ l)) late)
 
 -- the reader has stopped
 pub filled-last : (said : Said) (at : ℕ) (t : Tally) (filled : ℕ)
@@ -116,8 +116,8 @@ module _ (f : List ℕ) (at : ℕ) (t : Tally) (out₀ : List ℕ) where
       gives e n =
           let r = still (filled + 16) (s .at) (s .tally) in
           let turned : still filled place sums ≡ withEvent (s .event) r =
-              one-less room ∙ turn-event left f place sums (said-so Event e)
-              ∙ ap (λ (q : Step). withEvent (q .event) (readOn (enough f) left f (q .at) (q .tally))) (sym is) in
+          one-less room ∙ turn-event left f place sums (said-so Event e)
+          ∙ ap (λ (q : Step). withEvent (q .event) (readOn (enough f) left f (q .at) (q .tally))) (sym is) in
           let both = onto (withEvent (s .event) r) turned in
           record {
             sized = length-paste out filled (s .event) 16 (omega (arith, now .sized)) (omega arith) ∙ now .sized;
@@ -129,9 +129,9 @@ module _ (f : List ℕ) (at : ℕ) (t : Tally) (out₀ : List ℕ) where
       pub passes : (why : ℕ) → s .said ≡ Skipped why → Filling out (s .at) (s .tally) filled
       passes why e =
           let turned : still filled place sums ≡ still filled (s .at) (s .tally) =
-              one-less room ∙ turn-skipped left f place sums why (said-so (Skipped why) e)
-              ∙ ap (λ (q : Step). readOn (enough f) (suc left) f (q .at) (q .tally)) (sym is)
-              ∙ sym (ap (λ (n : ℕ). readOn (enough f) n f (s .at) (s .tally)) (more room)) in
+          one-less room ∙ turn-skipped left f place sums why (said-so (Skipped why) e)
+          ∙ ap (λ (q : Step). readOn (enough f) (suc left) f (q .at) (q .tally)) (sym is)
+          ∙ sym (ap (λ (n : ℕ). readOn (enough f) n f (s .at) (s .tally)) (more room)) in
           let both = onto (still filled (s .at) (s .tally)) turned in
           record { sized = now .sized; within = now .within; answers = both .0; holds = both .1 }
         where
@@ -142,8 +142,8 @@ module _ (f : List ℕ) (at : ℕ) (t : Tally) (out₀ : List ℕ) where
           → (record { said = x; at = s .at; tally = s .tally; filled = filled } ≡ filledBy all) × (out ≡ written all out₀)
       stops x e over =
           let turned : still filled place sums ≡ stopped x (s .at) (s .tally) =
-              one-less room ∙ turn left f place sums ∙ over-by x (said-so x e) over
-              ∙ ap (λ (q : Step). stopped x (q .at) (q .tally)) (sym is) in
+          one-less room ∙ turn left f place sums ∙ over-by x (said-so x e) over
+          ∙ ap (λ (q : Step). stopped x (q .at) (q .tally)) (sym is) in
           let both = onto (stopped x (s .at) (s .tally)) turned in
           (sym (both .0 ∙ filled-last x (s .at) (s .tally) filled), sym (both .1 ∙ written-last x (s .at) (s .tally) filled out))
         where
@@ -164,6 +164,6 @@ module _ (f : List ℕ) (at : ℕ) (t : Tally) (out₀ : List ℕ) where
     fills narrow =
         let k : (length out₀ - filled) / 16 ≡ 0 = omega arith in
         let turned : still filled place sums ≡ stopped Event place sums =
-            ap (λ (n : ℕ). readOn (enough f) n f place sums) k ∙ turn-full (enough f) f place sums in
+        ap (λ (n : ℕ). readOn (enough f) n f place sums) k ∙ turn-full (enough f) f place sums in
         let both = onto (stopped Event place sums) turned in
         (sym (both .0 ∙ filled-last Event place sums filled), sym (both .1 ∙ written-last Event place sums filled out))

@@ -1,2 +1,4 @@
 pub mod Turns
 pub mod Filling
+pub mod Keeping
+pub mod Feeding

@@ -73,7 +73,7 @@ mostRead = 88
 
 -- the window, once it is read up to a place: what is behind that moves up to the header. The zeros that come in behind belong to nothing
 abbrev pub carried : List ℕ → ℕ → ℕ → List ℕ
-carried b have at = take headerBytes b ++ (closed (at - headerBytes) (drop headerBytes (take have b)) ++ drop have b)
+carried b have at = take headerBytes b ++ (closed (at - headerBytes) (take (have - headerBytes) (drop headerBytes b)) ++ drop have b)
 
 -- "a packet longer than a buffer is read by its first bytes and the rest passed over": a record that the buffer has no room for, and whose
 -- first bytes are there, becomes one of those bytes alone

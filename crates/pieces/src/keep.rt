@@ -60,7 +60,7 @@ fn trim(buffer: &mut [u8], kept: usize) -> Kept
     put_length(buffer, low);
     Kept {
         have: HEADER_BYTES + MOST_READ,
-        pass: 16 + captured - kept,
+        pass: captured - (kept - 16),
         longer: captured - 88,
     }
 }

@@ -1,44 +1,52 @@
+-- `end`: a packet that isn't all there, or what stands first in the window.
+use Prim.Native.Nat.{ℕ, _+_, _%_, _^_}
+use mathlib.Core.Bool.{cond}
+use mathlib.Core.List.{List}
+use mathlib.Core.Path.{sym, ap, _∙_}
+use lib.Dec.{eqb}
+use native.Mathlib.Omega.{arith}
+use lib.Seq.{length-take-le}
+use borrow.Author.Tests.{eq-eqb, ne-eqb}
+use Rattle.pieces.specs.Streams.{ending, lastSaid}
+use Rattle.pcap.specs.declared.Step.{Step}
+use Rattle.pcap.specs.Reading.{stepAt}
+use Rattle.pieces.proofs.Feeding.{take-lower}
 use borrow.Author.Needs.{needs}
 use Rattle.pieces.proofs.feed.end.Statement.{statement}
 use Rattle.pieces.proofs.feed.end.Tie as tie
-use Rattle.pieces.proofs.feed.end.Reads as reads
-use Rattle.pieces.proofs.feed.end.Lts as lts
-use Rattle.pcap.proofs.read_on.Reads as read-on-reads
-use Rattle.pieces.proofs.feed.lower.Reads as lower-reads
-use Rattle.pieces.proofs.feed.number.Reads as number-reads
-use Rattle.pieces.proofs.feed.refused.Reads as refused-reads
 
--- src/feed.rt:141:9
 refused-requires : tie.Need-refused-requires
 refused-requires c κs = search needs
 
--- src/feed.rt:141:9
 returns : tie.Need-returns
-returns c = ?
+unfolding ending
+returns c = rw (ne-eqb (c .before .before .before .before .args .stream .pass) 0 (c .before .if1 .taken)) (c .refused .ensures)
 
--- src/feed.rt:143:9
 lower-requires : tie.Need-lower-requires
 lower-requires c κs = search needs
 
--- src/feed.rt:144:30
 slice-aggregate-read-on : tie.Need-slice-aggregate-read-on
-slice-aggregate-read-on c = ?
+slice-aggregate-read-on c = sym (length-take-le (c .before .lower .result) (c .before .before .before .before .before .args .buffer .now) (omega (arith, c .before .lower .ensures)))
 
--- src/feed.rt:144:9
 read-on-requires : tie.Need-read-on-requires
 read-on-requires c κs = search needs
 
--- src/feed.rt:146:13
 number-requires : tie.Need-number-requires
 number-requires c κs = search needs
 
--- src/feed.rt:146:5
 refused-requires-2 : tie.Need-refused-requires-2
 refused-requires-2 c κs = search needs
 
--- src/feed.rt:137:1
 returns-2 : tie.Need-returns-2
-returns-2 c = ?
+unfolding ending
+returns-2 c =
+    let p = c .before .before .before .before .before .before .before .before .args in
+    let w = take-lower (p .stream .have) (c .before .before .before .before .lower .result) (p .buffer .now) (c .before .before .before .before .lower .ensures) in
+    let step = c .before .before .read-on .ensures ∙ ap (λ (l : List ℕ). stepAt l 24 (p .stream .tally)) w in
+    let n = c .before .number .ensures ∙ ap (λ (q : Step). lastSaid (q .said)) step in
+    rw (eq-eqb (p .stream .pass) 0 (c .before .before .before .before .before .if1 .left))
+    (c .refused2 .ensures
+    ∙ ap (λ (k : ℕ). record { refusal = k; at = cond (eqb k 22) ((p .stream .before + 24) % 2 ^ 64) 0 }) n)
 
 pub end-spec : {M : Type 1} → statement M
 end-spec =

@@ -34,14 +34,14 @@ add-filled : tie.Need-add-filled Inv-loop μ-loop
 add-filled c = omega (arith, c .before .before .before .before .before .before .before .before .before .loop-test .taken, c .before .before .before .before .before .before .before .before .before .before .loop .inv .sized, c .before .before .before .before .before .before .before .before .before .before .loop .inv .within)
 
 loop-less : tie.Need-loop-less Inv-loop μ-loop
-loop-less c = 
+loop-less c =
     let l = c .before .before .before .before .before .before .before .before .before .before .loop in
     let a = c .before .before .before .before .before .before .before .before .before .before .before .before .before .args in
     let r = c .before .before .before .before .before .before .before .before .read-on in
     less (a .bytes .now) (a .at) (a .tally) (a .out .now) (l .out) (l .place) (l .sums) (l .filled) (l .inv) (r .result) (r .ensures) (omega (arith, c .before .before .before .before .before .before .before .before .before .loop-test .taken, l .inv .sized)) Event (c .before .before .before .before .enum-told .given .1) refl
 
 loop-again : tie.Need-loop-again Inv-loop μ-loop
-loop-again c = 
+loop-again c =
     let l = c .before .before .before .before .before .before .before .before .before .before .loop in
     let a = c .before .before .before .before .before .before .before .before .before .before .before .before .before .args in
     let r = c .before .before .before .before .before .before .before .before .read-on in
@@ -51,14 +51,14 @@ enum-told-2 : tie.Need-enum-told-2 Inv-loop μ-loop
 enum-told-2 c = search needs
 
 loop-less-2 : tie.Need-loop-less-2 Inv-loop μ-loop
-loop-less-2 c = 
+loop-less-2 c =
     let l = c .before .before .before .before .before .before .loop in
     let a = c .before .before .before .before .before .before .before .before .before .args in
     let r = c .before .before .before .before .read-on in
     less (a .bytes .now) (a .at) (a .tally) (a .out .now) (l .out) (l .place) (l .sums) (l .filled) (l .inv) (r .result) (r .ensures) (omega (arith, c .before .before .before .before .before .loop-test .taken, l .inv .sized)) (Skipped (c .enum-told2 .given .0 .0)) (c .enum-told2 .given .1) refl
 
 loop-again-2 : tie.Need-loop-again-2 Inv-loop μ-loop
-loop-again-2 c = 
+loop-again-2 c =
     let l = c .before .before .before .before .before .before .loop in
     let a = c .before .before .before .before .before .before .before .before .before .args in
     let r = c .before .before .before .before .read-on in

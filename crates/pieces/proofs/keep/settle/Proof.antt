@@ -1,63 +1,79 @@
+-- `settle`: places that make no sense; else the gap behind the header is closed, and a record that is too long is shortened.
+use Prim.Native.Nat.{ℕ, _+_, _-_}
+use mathlib.Core.Bool.{cond}
+use mathlib.Core.List.{List}
+use mathlib.Core.Path.{_≡_, refl, subst}
+use lib.ListN.{length}
+use borrow.Author.Tests.{le-leb, lt-leb}
+use Rattle.pieces.specs.Pieces.{settledKept, settledBuffer, tooLong, keptFirst, keptAll, trimmed}
+use Rattle.pieces.proofs.Keeping.{carried-back}
 use borrow.Author.Needs.{needs}
 use Rattle.pieces.proofs.keep.settle.Statement.{statement}
 use Rattle.pieces.proofs.keep.settle.Tie as tie
-use Rattle.pieces.proofs.keep.settle.Reads as reads
-use Rattle.pieces.proofs.keep.settle.Lts as lts
-use Rattle.pieces.proofs.keep.kept_all.Reads as kept-all-reads
-use Rattle.pieces.proofs.keep.trim.Reads as trim-reads
-use Rattle.spans.proofs.close.Reads as close-reads
 
--- src/keep.rt:22:9
 kept-all-requires : tie.Need-kept-all-requires
 kept-all-requires c κs = search needs
 
--- src/keep.rt:22:9
 returns : tie.Need-returns
-returns c = ?
+unfolding settledKept settledBuffer
+returns c =
+    let early = lt-leb 24 (c .before .before .before .args .at) (c .before .if1 .taken) in
+    (rw early (c .kept-all .ensures), rw early refl)
 
--- src/keep.rt:25:9
 kept-all-requires-2 : tie.Need-kept-all-requires-2
 kept-all-requires-2 c κs = search needs
 
--- src/keep.rt:25:9
 returns-2 : tie.Need-returns-2
-returns-2 c = ?
+unfolding settledKept settledBuffer
+returns-2 c =
+    let a = le-leb 24 (c .before .before .before .before .args .at) (c .before .before .if1 .left) in
+    let early = lt-leb (c .before .before .before .before .args .at) (c .before .before .before .before .args .have) (c .before .if2 .taken) in
+    (rw (a, early) (c .kept-all2 .ensures), rw (a, early) refl)
 
--- src/keep.rt:28:9
 kept-all-requires-3 : tie.Need-kept-all-requires-3
 kept-all-requires-3 c κs = search needs
 
--- src/keep.rt:28:9
 returns-3 : tie.Need-returns-3
-returns-3 c = ?
+unfolding settledKept settledBuffer
+returns-3 c =
+    let a = le-leb 24 (c .before .before .before .before .before .args .at) (c .before .before .before .if1 .left) in
+    let h = le-leb (c .before .before .before .before .before .args .at) (c .before .before .before .before .before .args .have) (c .before .before .if2 .left) in
+    let early = lt-leb (c .before .before .before .before .before .args .have) (length (c .before .before .before .before .before .args .buffer .now)) (c .before .if3 .taken) in
+    (rw (a, h, early) (c .kept-all3 .ensures), rw (a, h, early) refl)
 
--- src/keep.rt:30:18
 sub-close : tie.Need-sub-close
 sub-close c = search needs
 
--- src/keep.rt:30:18
 part-close-start : tie.Need-part-close-start
 part-close-start c = search needs
 
--- src/keep.rt:30:18
 part-close-end : tie.Need-part-close-end
 part-close-end c = search needs
 
--- src/keep.rt:30:5
 close-requires : tie.Need-close-requires
 close-requires c κs = search needs
 
--- src/keep.rt:31:5
 trim-requires : tie.Need-trim-requires
 trim-requires c κs = search needs
 
--- src/keep.rt:17:1
 same-length : tie.Need-same-length
 same-length c = search needs
 
--- src/keep.rt:17:1
 returns-4 : tie.Need-returns-4
-returns-4 c = ?
+unfolding settledKept settledBuffer
+returns-4 c =
+    let p = c .before .before .before .before .before .before .before .before .before .before .before .before .args in
+    let first = c .before .before .before .before .before .before .before .before .before .before .if1 .left in
+    let order = c .before .before .before .before .before .before .before .before .before .if2 .left in
+    let a = le-leb 24 (p .at) first in
+    let h = le-leb (p .at) (p .have) order in
+    let l = le-leb (p .have) (length (p .buffer .now)) (c .before .before .before .before .before .before .before .before .if3 .left) in
+    let e = carried-back (p .buffer .now) (c .before .before .before .before .before .before .close .last .0) (p .have) (p .at) first order (c .before .before .before .before .before .before .close .ensures) in
+    let t = c .before .before .trim in
+    let k = p .have - p .at in (
+      rw (a, h, l) (subst (λ (x : List ℕ). t .result ≡ cond (tooLong x k) (keptFirst k x) (keptAll (24 + k))) e (t .ensures .0)),
+      rw (a, h, l) (subst (λ (x : List ℕ). t .last .0 ≡ cond (tooLong x k) (trimmed x) x) e (t .ensures .1)),
+    )
 
 pub settle-spec : {M : Type 1} → statement M
 settle-spec =

@@ -1,92 +1,85 @@
+-- `trim`: too little is there; the record fits; or it is shortened.
+use Prim.Native.Nat.{_-_}
+use mathlib.Core.Path.{refl}
+use native.Mathlib.Omega.{arith}
+use lib.ListN.{length, drop, length-drop}
+use lib.Seq.{take-all}
+use Rattle.pieces.proofs.Keeping.{captured-there, long-few, long-fits, long-over, kept-first}
 use borrow.Author.Needs.{needs}
 use Rattle.pieces.proofs.keep.trim.Statement.{statement}
 use Rattle.pieces.proofs.keep.trim.Tie as tie
-use Rattle.pieces.proofs.keep.trim.Reads as reads
-use Rattle.pieces.proofs.keep.trim.Lts as lts
-use Rattle.pcap.proofs.captured_length.Reads as captured-length-reads
-use Rattle.pcap.proofs.low_first.Reads as low-first-reads
-use Rattle.pieces.proofs.keep.kept_all.Reads as kept-all-reads
-use Rattle.pieces.proofs.keep.put_length.Reads as put-length-reads
 
--- src/keep.rt:53:25
 add-kept-all : tie.Need-add-kept-all
 add-kept-all c = search needs
 
--- src/keep.rt:53:9
 kept-all-requires : tie.Need-kept-all-requires
 kept-all-requires c κs = search needs
 
--- src/keep.rt:53:9
 returns : tie.Need-returns
-returns c = ?
+returns c =
+    let few = long-few (c .before .before .before .args .buffer .now) (c .before .before .before .args .kept) (c .before .if1 .taken) in
+    (rw few (c .kept-all .ensures), rw few refl)
 
--- src/keep.rt:55:9
 low-first-requires : tie.Need-low-first-requires
 low-first-requires c κs = search needs
 
--- src/keep.rt:56:47
 sub-captured-length : tie.Need-sub-captured-length
 sub-captured-length c = search needs
 
--- src/keep.rt:56:47
 part-captured-length-start : tie.Need-part-captured-length-start
 part-captured-length-start c = search needs
 
--- src/keep.rt:56:47
 part-captured-length-end : tie.Need-part-captured-length-end
 part-captured-length-end c = search needs
 
--- src/keep.rt:56:9
 captured-length-requires : tie.Need-captured-length-requires
 captured-length-requires c κs = search needs
 
--- src/keep.rt:57:20
 sub-if2 : tie.Need-sub-if2
 sub-if2 c = search needs
 
--- src/keep.rt:58:25
 add-kept-all-2 : tie.Need-add-kept-all-2
 add-kept-all-2 c = search needs
 
--- src/keep.rt:58:9
 kept-all-requires-2 : tie.Need-kept-all-requires-2
 kept-all-requires-2 c κs = search needs
 
--- src/keep.rt:58:9
 same-length : tie.Need-same-length
 same-length c = search needs
 
--- src/keep.rt:58:9
 returns-2 : tie.Need-returns-2
-returns-2 c = ?
+returns-2 c =
+    let l = c .before .before .before .before .before .before .before .before .before .args .buffer .now in
+    let many = c .before .before .before .before .before .before .before .if1 .left in
+    let e = captured-there l _ (c .before .before .before .before .before .low-first .result) (c .before .before .captured-length .result) (omega (arith, c .before .before .before .before .before .before .before .before .before .pre, many)) (take-all (length l - 24) (drop 24 l) (simp length-drop (omega arith))) (c .before .before .before .before .before .low-first .ensures) (c .before .before .captured-length .ensures) in
+    let fits = long-fits l (c .before .before .before .before .before .before .before .before .before .args .kept) many (omega (arith, c .before .if2 .taken, e)) (omega (arith, c .before .before .before .before .before .before .before .before .before .pre, many)) in
+    (rw fits (c .kept-all2 .ensures), rw fits refl)
 
--- src/keep.rt:60:5
 put-length-requires : tie.Need-put-length-requires
 put-length-requires c κs = search needs
 
--- src/keep.rt:62:15
 add-t10 : tie.Need-add-t10
 add-t10 c = search needs
 
--- src/keep.rt:63:15
-add-t13 : tie.Need-add-t13
-add-t13 c = ?
+sub-t13 : tie.Need-sub-t13
+sub-t13 c = search needs
 
--- src/keep.rt:63:15
 sub-t18 : tie.Need-sub-t18
 sub-t18 c = search needs
 
--- src/keep.rt:64:17
 sub-t19 : tie.Need-sub-t19
 sub-t19 c = search needs
 
--- src/keep.rt:47:1
 same-length-2 : tie.Need-same-length-2
 same-length-2 c = search needs
 
--- src/keep.rt:47:1
 returns-3 : tie.Need-returns-3
-returns-3 c = ?
+returns-3 c =
+    let l = c .before .before .before .before .before .before .before .before .before .before .before .before .args .buffer .now in
+    let many = c .before .before .before .before .before .before .before .before .before .before .if1 .left in
+    let e = captured-there l _ (c .before .before .before .before .before .before .before .before .low-first .result) (c .before .before .before .before .before .captured-length .result) (omega (arith, c .before .before .before .before .before .before .before .before .before .before .before .before .pre, many)) (take-all (length l - 24) (drop 24 l) (simp length-drop (omega arith))) (c .before .before .before .before .before .before .before .before .low-first .ensures) (c .before .before .before .before .before .captured-length .ensures) in
+    let over = long-over l (c .before .before .before .before .before .before .before .before .before .before .before .before .args .kept) many (omega (arith, c .before .before .before .before .if2 .left, e)) in
+    (rw over (kept-first l (c .before .before .before .before .before .before .before .before .before .before .before .before .args .kept) (c .before .before .before .before .before .captured-length .result) many e), rw over (c .before .before .put-length .ensures))
 
 pub trim-spec : {M : Type 1} → statement M
 trim-spec =
@@ -107,7 +100,7 @@ trim-spec =
     returns-2
     put-length-requires
     add-t10
-    add-t13
+    sub-t13
     sub-t18
     sub-t19
     same-length-2
