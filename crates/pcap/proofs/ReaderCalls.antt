@@ -100,7 +100,7 @@ module _ {M : Type 1} (𝓤 : URA M) (H : Heap 𝓤) (A : Atoms 𝓤) (W : Given
           → Seq K W (Tokens κ q ∷ ‵ (Bytes κ s) ∷ Γ) (runs C Λ En (seq (call #pcap·open xs place) rest) p)
       calls-open k fm met known os go =
           move k (1 ∷ []) $ twice k κ s $ move k (2 ∷ 0 ∷ []) $ use2 W (raw (Open 𝓤 H A mem run .pre to-open)) (goes-open known) $
-          calls-for k fm κ q (Open 𝓤 H A mem run) met to-open os (Reads κ) T′.lowered
+          calls-for k fm (Tokens κ q) (Open 𝓤 H A mem run) met to-open os (Reads κ) T′.lowered
           (LL.tells (T.the-type (lent κ)) (T′.the-laws (lent κ))) told-open (λ u. id⊢ 𝓤 _) opened fixed-open go
 
   -- ---- moved, next: of a reader d
@@ -140,7 +140,7 @@ module _ {M : Type 1} (𝓤 : URA M) (H : Heap 𝓤) (A : Atoms 𝓤) (W : Given
         calls-moved k fm met h fits known os go =
             move k (1 ∷ []) $ twice k κ s $ move k (2 ∷ 0 ∷ []) $ use2 W (raw (Moved 𝓤 H A mem run .pre to-moved))
             (goes-moved h fits known) $
-            calls-for k fm κ q (Moved 𝓤 H A mem run) met to-moved os (Reads κ) T′.lowered
+            calls-for k fm (Tokens κ q) (Moved 𝓤 H A mem run) met to-moved os (Reads κ) T′.lowered
             (LL.tells (T.the-type (lent κ)) (T′.the-laws (lent κ))) told-moved (λ u. id⊢ 𝓤 _) at-new fixed-moved go
 
     abbrev found : Step
@@ -169,5 +169,5 @@ module _ {M : Type 1} (𝓤 : URA M) (H : Heap 𝓤) (A : Atoms 𝓤) (W : Given
           → Seq K W (Tokens κ q ∷ ‵ (Bytes κ s) ∷ Γ) (runs C Λ En (seq (call #pcap·next xs place) rest) p)
       calls-next k fm met h os go =
           move k (1 ∷ []) $ twice k κ s $ move k (2 ∷ 0 ∷ []) $ use2 W (raw (Next 𝓤 H A mem run .pre to-next)) (goes-next h) $
-          calls-for k fm κ q (Next 𝓤 H A mem run) met to-next os S.the-row (LL.val S.the-type S′.the-laws)
+          calls-for k fm (Tokens κ q) (Next 𝓤 H A mem run) met to-next os S.the-row (LL.val S.the-type S′.the-laws)
           (LL.tells S.the-type S′.the-laws) told-next (λ u. id⊢ 𝓤 _) found fixed-next go

@@ -115,9 +115,9 @@ module _ {M : Type 1} (𝓤 : URA M) (H : Heap 𝓤) (A : Atoms 𝓤) (W : Given
       (own-open 𝓤 H A W (declared κ) (laws κ) (fields κ d) (T′.lowered d)) $
       learn ! (λ _. fsplit ! $ move ! (1 ∷ []) $ drop ! $ done !)
 
--- what a call leaves: some answer, which the machine value u is and of which E holds, and the token
-abbrev Answered : {M : Type 1} {𝓤 : URA M} → Lft → Share → (R : RattleType) → (R .Denot → SProp 𝓤) → Val → Item 𝓤
-Answered κ q R E u = later (some (λ (r : R .Denot). (Tokens κ q ⊛ ‵ (R .own r (u ∷ []))) ⊛ raw (E r)))
+-- what a call leaves: the tokens, and some answer, which the machine value u is and of which E holds
+abbrev Answered : {M : Type 1} {𝓤 : URA M} → Item 𝓤 → (R : RattleType) → (R .Denot → SProp 𝓤) → Val → Item 𝓤
+Answered tokens R E u = later (some (λ (r : R .Denot). (tokens ⊛ ‵ (R .own r (u ∷ []))) ⊛ raw (E r)))
 
 module _ {M : Type 1} {𝓤 : URA M} {H : Heap 𝓤} {A : Atoms 𝓤} {K : Type 0} {W : Given 𝓤 H A} {Γ : List (Item 𝓤)} where
   module _ {G : Goal 𝓤 H} where
@@ -130,17 +130,17 @@ module _ {M : Type 1} {𝓤 : URA M} {H : Heap 𝓤} {A : Atoms 𝓤} {K : Type 
 
   module _ {En : Env 𝓤 H} {C : Calls 𝓤 H} {Λ : Loops 𝓤 H} {p : Post 𝓤 H} {f : Name} {xs : List Operand} {d : Place} {rest : Body} where
     -- x is what the caller picks of the contract, R the answer's type, E what the contract says of an answer
-    pub calls-for : K → FmC 𝓤 H (W .laws) C → (κ : Lft) (q : Share) (c : Contract 𝓤) → Triple 𝓤 (C f) c → (x : c .Ghost)
+    pub calls-for : K → FmC 𝓤 H (W .laws) C → (tokens : Item 𝓤) (c : Contract 𝓤) → Triple 𝓤 (C f) c → (x : c .Ghost)
         → Opds K W (raw (c .pre x) ∷ Γ) En xs (c .args x)
         → (R : RattleType) (val : R .Denot → Val) → Tells R (Is R) (λ r. val r ∷ []) → (E : R .Denot → SProp 𝓤)
-        → ((u : Val) → ent 𝓤 (c .post x u) (mean 𝓤 H A (Answered κ q R E u)))
+        → ((u : Val) → ent 𝓤 (c .post x u) (mean 𝓤 H A (Answered tokens R E u)))
         → (r : R .Denot) → ((r′ : R .Denot) → ent 𝓤 (E r′) (fact 𝓤 (r′ ≡ r)))
-        → (Is R r (val r ∷ []) → Seq K W (Tokens κ q ∷ Γ) (lands C Λ En d (val r) rest p))
+        → (Is R r (val r ∷ []) → Seq K W (tokens ∷ Γ) (lands C Λ En d (val r) rest p))
         → Seq K W (raw (c .pre x) ∷ Γ) (runs C Λ En (seq (call f xs d) rest) p)
-    calls-for t fm κ q c known x os R val tells E posts r says go =
+    calls-for t fm tokens c known x os R val tells E posts r says go =
         calls-at t fm c known x os (λ u.
-        use1 W (Answered κ q R E u) (posts u) $ await t tt $ pick t (λ r′. split t $ move t (1 ∷ []) $
+        use1 W (Answered tokens R E u) (posts u) $ await t tt $ pick t (λ r′. split t $ move t (1 ∷ []) $
         use1 W (raw (fact 𝓤 (r′ ≡ r))) (says r′) $ heard t (r′ ≡ r) (λ e. split t $ move t (1 ∷ []) $
         peeks t R (Is R) (shows 𝓤 H A R) r′ (u ∷ []) (λ is. drop t $
-        subst (λ (v : Val). Seq K W (Tokens κ q ∷ Γ) (lands C Λ En d v rest p)) (sym (ap only (tells r′ (u ∷ []) is) ∙ ap val e))
+        subst (λ (v : Val). Seq K W (tokens ∷ Γ) (lands C Λ En d v rest p)) (sym (ap only (tells r′ (u ∷ []) is) ∙ ap val e))
         (go (subst (λ (s : R .Denot). Is R s (val s ∷ [])) e (subst (Is R r′) (tells r′ (u ∷ []) is) is)))))))

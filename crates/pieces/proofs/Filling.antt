@@ -1,169 +1,164 @@
--- A buffer that is filled with event records: what the reader still gives goes behind what stands there already.
-use Prim.Native.Nat.{ℕ, suc, _+_, _*_, _-_, _/_, _≤_, _<_}
-use mathlib.Core.Bool.{true, false}
-use mathlib.Core.List.{List, [], _∷_, _++_, append-assoc}
-use mathlib.Core.Path.{_≡_, refl, sym, ap, subst, _∙_}
+-- Filling a buffer turn by turn: no turn changes what the loop comes to; once the reader isn't called again, that is what stands there; and
+-- each turn brings the end nearer.
+use Prim.Native.Nat.{ℕ, suc, _+_, _*_, _-_, _/_, _<_, _≤_}
+use mathlib.Core.Bool.{true, false, cond}
+use mathlib.Core.List.{List, [], _++_, append-assoc, append-nil}
+use mathlib.Core.Path.{_≡_, refl, sym, ap, _∙_}
+use native.Mathlib.Nat.{zero-add, add-zero}
 use native.Mathlib.Omega.{arith}
 use lib.ListN.{length, take, drop, take-append-drop}
-use lib.Seq.{paste, length-paste, take-paste, drop-paste, take-all, drop-drop}
-use Rattle.sets.proofs.Cases.{clash}
+use lib.Seq.{paste, take-all, drop-drop, take-paste, drop-paste, length-paste}
+use borrow.Author.Tests.{leb-true, leb-false}
+use Rattle.sets.proofs.Cases.{both, clash}
 use Rattle.pcap.specs.declared.Said.{Said}
 use Rattle.pcap.specs.declared.Said.the-variants.{Event, Skipped, Finished, Refused}
-use Rattle.pcap.specs.declared.Step.{Step}
 use Rattle.pcap.specs.declared.Tally.{Tally}
-use Rattle.pieces.specs.declared.Filled.{Filled}
+use Rattle.pcap.specs.declared.Step.{Step}
 use Rattle.pcap.specs.Reading.{stepAt}
-use Rattle.pieces.specs.Pieces.{Ran, joined, stopped, withEvent, bySaid, readOn, enough, roomFor, filledBy, written}
-use Rattle.pieces.proofs.Turns.{goesOn, ahead, moves-on, turn, turn-full, turn-event, turn-skipped}
+use Rattle.pieces.specs.declared.Filled.{Filled}
+use Rattle.pieces.specs.Pieces.{Ran, stopped, withEvent, readOn, enough, roomFor, joined, filledBy, written, begun, saysMore, callsAgain, stepTaken, bufferTaken}
+use Rattle.pieces.proofs.Turns.{ahead, moves-on, turn-full, turn-event, turn-skipped, turn-finished, turn-refused}
 
--- the answer, and the buffer, when r is still to come behind so many bytes
-abbrev pub filledAt : Ran → ℕ → Filled
-filledAt r filled = record { said = r .said; at = r .at; tally = r .tally; filled = filled + 16 * length (r .events) }
+-- what is answered, and the buffer: what a loop that has filled n bytes comes to, when the reader gives r from there on
+abbrev pub Result : Type 0
+Result = Filled × List ℕ
 
-abbrev pub writtenAt : Ran → ℕ → List ℕ → List ℕ
-writtenAt r filled out = take filled out ++ (joined (r .events) ++ drop (filled + 16 * length (r .events)) out)
+abbrev ended : ℕ → List ℕ → Ran → Result
+ended n out r = (
+  record { said = r .said; at = r .at; tally = r .tally; filled = n + 16 * length (r .events) },
+  (take n out ++ joined (r .events)) ++ drop (n + 16 * length (r .events)) out,
+)
 
--- nothing stands there yet
-pub from-front : (r : Ran) → filledBy r ≡ filledAt r 0
-from-front r = ap (λ (n : ℕ). record { said = r .said; at = r .at; tally = r .tally; filled = n }) (omega arith)
+-- what it comes to from where it is, and what the contract of `fill_events` says
+abbrev pub comesTo : List ℕ → Filled → List ℕ → Result
+comesTo f d out =
+    cond (saysMore (d .said))
+    (ended (d .filled) out (readOn (enough f) ((length out - d .filled) / 16) f (d .at) (d .tally)))
+    (d, out)
 
-pub written-front : (r : Ran) (out : List ℕ) → written r out ≡ writtenAt r 0 out
-written-front r out =
-    let n : 16 * length (r .events) ≡ 0 + 16 * length (r .events) = omega arith in
-    ap (λ (k : ℕ). joined (r .events) ++ drop k out) n
+abbrev pub promised : List ℕ → ℕ → Tally → List ℕ → Result
+promised f at t out = (filledBy (readOn (enough f) (roomFor out) f at t), written (readOn (enough f) (roomFor out) f at t) out)
 
--- an event more
-pub filled-more : (e : List ℕ) (r : Ran) (filled : ℕ) → filledAt (withEvent e r) filled ≡ filledAt r (filled + 16)
-filled-more e r filled = ap (λ (n : ℕ). record { said = r .said; at = r .at; tally = r .tally; filled = n }) (omega arith)
-
-pub written-more : (e : List ℕ) (r : Ran) (filled : ℕ) (out : List ℕ) → length e ≡ 16 → filled + 16 ≤ length out
-    → writtenAt (withEvent e r) filled out ≡ writtenAt r (filled + 16) (paste out filled e 16)
-unfolding joined
-written-more e r filled out sized room =
+-- ---- at the beginning
+first : (out : List ℕ) (r : Ran) → ended 0 out r ≡ (filledBy r, written r out)
+first out r =
     let n = 16 * length (r .events) in
-    let early : take (filled + 16) (paste out filled e 16) ≡ take filled out ++ e =
-    take-paste out filled e 16 (omega arith) (omega arith) ∙ ap (λ (l : List ℕ). take filled out ++ l) (take-all 16 e (omega arith)) in
-    let far : filled + 16 + n ≡ filled + 16 * suc (length (r .events)) = omega arith in
-    let late : drop (filled + 16 + n) (paste out filled e 16) ≡ drop (filled + 16 * suc (length (r .events))) out =
-    sym (drop-drop n (filled + 16) (paste out filled e 16))
-    ∙ ap (drop n) (drop-paste out filled e 16 (omega arith) (omega arith))
-    ∙ drop-drop n (filled + 16) out
-    ∙ ap (λ (k : ℕ). drop k out) far in
-    ap (λ (l : List ℕ). take filled out ++ l) (append-assoc e (joined (r .events)) (drop (filled + 16 * suc (length (r .events))) out))
-    ∙ sym (append-assoc (take filled out) e (joined (r .events) ++ drop (filled + 16 * suc (length (r .events))) out))
-    ∙ sym (ap (λ (l : List ℕ). l ++ (joined (r .events) ++ drop (filled + 16 + n) (paste out filled e 16))) early
-    ∙ ap (λ (l : List ℕ). (take filled out ++ e) ++ (joined (r .events) ++ l)) late)
+    ap (λ (k : ℕ). (record { said = r .said; at = r .at; tally = r .tally; filled = k }, joined (r .events) ++ drop k out)) (zero-add n)
 
--- the reader has stopped
-pub filled-last : (said : Said) (at : ℕ) (t : Tally) (filled : ℕ)
-    → filledAt (stopped said at t) filled ≡ record { said = said; at = at; tally = t; filled = filled }
-filled-last said at t filled = ap (λ (n : ℕ). record { said = said; at = at; tally = t; filled = n }) (omega arith)
+pub begins : (f : List ℕ) (at : ℕ) (t : Tally) (out : List ℕ) → comesTo f (begun at t) out ≡ promised f at t out
+begins f at t out =
+    let all : length out - 0 ≡ length out = omega arith in
+    ap (λ (n : ℕ). ended 0 out (readOn (enough f) (n / 16) f at t)) all ∙ first out (readOn (enough f) (roomFor out) f at t)
 
-pub written-last : (said : Said) (at : ℕ) (t : Tally) (filled : ℕ) (out : List ℕ) → writtenAt (stopped said at t) filled out ≡ out
+-- ---- a turn
+
+-- an event is put behind the first n bytes
+event-put : (n : ℕ) (out e : List ℕ) (r : Ran) → n + 16 ≤ length out → length e ≡ 16
+    → ended (n + 16) (paste out n e 16) r ≡ ended n out (withEvent e r)
 unfolding joined
-written-last said at t filled out =
-    let n : filled + 16 * 0 ≡ filled = omega arith in
-    ap (λ (k : ℕ). take filled out ++ drop k out) n ∙ take-append-drop filled out
+event-put n out e r room sized =
+    let k = 16 * length (r .events) in
+    let more : (n + 16) + k ≡ n + 16 * suc (length (r .events)) = omega arith in
+    let in-buffer : n ≤ length out = omega arith in
+    let in-event : 16 ≤ length e = omega arith in
+    let at-most : length e ≤ 16 = omega arith in
+    let put : take (n + 16) (paste out n e 16) ≡ take n out ++ e =
+    take-paste out n e 16 in-buffer in-event ∙ ap (λ (l : List ℕ). take n out ++ l) (take-all 16 e at-most) in
+    let behind : drop ((n + 16) + k) (paste out n e 16) ≡ drop ((n + 16) + k) out =
+    sym (drop-drop k (n + 16) (paste out n e 16)) ∙ ap (drop k) (drop-paste out n e 16 in-buffer in-event) ∙ drop-drop k (n + 16) out in
+    ap (λ (l : List ℕ). (record { said = r .said; at = r .at; tally = r .tally; filled = (n + 16) + k }, l))
+    (ap (λ (l : List ℕ). (l ++ joined (r .events)) ++ drop ((n + 16) + k) (paste out n e 16)) put
+    ∙ ap (λ (l : List ℕ). ((take n out ++ e) ++ joined (r .events)) ++ l) behind
+    ∙ ap (λ (l : List ℕ). l ++ drop ((n + 16) + k) out) (append-assoc (take n out) e (joined (r .events))))
+    ∙ ap (λ (m : ℕ). (
+      record { said = r .said; at = r .at; tally = r .tally; filled = m },
+      (take n out ++ (e ++ joined (r .events))) ++ drop m out,
+    )) more
 
--- a buffer that is being filled from a place of a capture on: what the reader gives in all is what stands in the buffer and what it still gives
--- from its present place on
-module _ (f : List ℕ) (at : ℕ) (t : Tally) (out₀ : List ℕ) where
-  abbrev pub all : Ran
-  all = readOn (enough f) (roomFor out₀) f at t
+-- nothing more is put
+stop-is : (n : ℕ) (out : List ℕ) (x : Said) (at : ℕ) (t : Tally)
+    → ended n out (stopped x at t) ≡ (record { said = x; at = at; tally = t; filled = n }, out)
+unfolding joined
+stop-is n out x at t =
+    ap (λ (m : ℕ). (record { said = x; at = at; tally = t; filled = m }, (take n out ++ []) ++ drop m out)) (add-zero n)
+    ∙ ap (λ (l : List ℕ). (record { said = x; at = at; tally = t; filled = n }, l ++ drop n out)) (append-nil (take n out))
+    ∙ ap (λ (l : List ℕ). (record { said = x; at = at; tally = t; filled = n }, l)) (take-append-drop n out)
 
-  abbrev pub still : ℕ → ℕ → Tally → Ran
-  still filled place sums = readOn (enough f) ((length out₀ - filled) / 16) f place sums
+module _ (f : List ℕ) (at : ℕ) (t : Tally) (n : ℕ) (out : List ℕ) (room : n + 16 ≤ length out) where
+  abbrev s : Step
+  s = stepAt f at t
 
-  pub record Filling (out : List ℕ) (place : ℕ) (sums : Tally) (filled : ℕ) : Type 0 where
-    pub sized : length out ≡ length out₀
-    pub within : filled ≤ length out₀
-    pub answers : filledBy all ≡ filledAt (still filled place sums) filled
-    pub holds : written all out₀ ≡ writtenAt (still filled place sums) filled out
+  abbrev k : ℕ
+  k = (length out - (n + 16)) / 16
 
-  pub begins : Filling out₀ at t 0
-  begins =
-      let k : length out₀ / 16 ≡ (length out₀ - 0) / 16 = omega arith in
-      let r : all ≡ still 0 at t = ap (λ (n : ℕ). readOn (enough f) n f at t) k in
-      record {
-        sized = refl;
-        within = omega arith;
-        answers = from-front all ∙ ap (λ x. filledAt x 0) r;
-        holds = written-front all out₀ ∙ ap (λ x. writtenAt x 0 out₀) r;
-      }
+  one-more : (length out - n) / 16 ≡ suc k
+  one-more = omega (arith, room)
 
-  module _ (out : List ℕ) (place : ℕ) (sums : Tally) (filled : ℕ) (now : Filling out place sums filled) where
-    -- room for an event more
-    abbrev left : ℕ
-    left = (length out₀ - (filled + 16)) / 16
+  by-said : (x : Said) → s .said ≡ x → length (s .event) ≡ 16
+      → comesTo f (stepTaken n s) (bufferTaken n s out) ≡ ended n out (readOn (enough f) (suc k) f at t)
+  by-said Event e sized = rw e
+      (ap (λ (m : ℕ). ended (n + 16) (paste out n (s .event) 16) (readOn (enough f) ((m - (n + 16)) / 16) f (s .at) (s .tally)))
+      (length-paste out n (s .event) 16 room (omega (arith, sized)))
+      ∙ event-put n out (s .event) (readOn (enough f) k f (s .at) (s .tally)) room sized
+      ∙ ap (ended n out) (sym (turn-event k f at t e)))
+  by-said (Skipped why) e sized = rw e
+      (ap (λ (m : ℕ). ended n out (readOn (enough f) m f (s .at) (s .tally))) one-more
+      ∙ ap (ended n out) (sym (turn-skipped k f at t why e)))
+  by-said Finished e sized = rw e (sym (ap (ended n out) (turn-finished k f at t e) ∙ stop-is n out Finished (s .at) (s .tally)))
+  by-said (Refused x) e sized = rw e (sym (ap (ended n out) (turn-refused k f at t x e) ∙ stop-is n out (Refused x) (s .at) (s .tally)))
 
-    one-less : 16 ≤ length out₀ - filled → still filled place sums ≡ readOn (enough f) (suc left) f place sums
-    one-less room =
-        let k : (length out₀ - filled) / 16 ≡ suc left = omega arith in ap (λ (n : ℕ). readOn (enough f) n f place sums) k
+-- where the reader is called again, there is room, and it has said so
+more-room : (d : Filled) (n : ℕ) → callsAgain d n ≡ true → (saysMore (d .said) ≡ true) × (d .filled + 16 ≤ n)
+more-room d n g =
+    both (saysMore (d .said)) (λ m. (m, leb-true (d .filled + 16) n (rw m at g))) (λ m. clash g (rw m refl))
 
-    -- the invariant goes over to what the present calls come to
-    onto : (r : Ran) → still filled place sums ≡ r → (filledBy all ≡ filledAt r filled) × (written all out₀ ≡ writtenAt r filled out)
-    onto r e = (now .answers ∙ ap (λ x. filledAt x filled) e, now .holds ∙ ap (λ x. writtenAt x filled out) e)
+pub room-there : (d : Filled) (n : ℕ) → callsAgain d n ≡ true → d .filled + 16 ≤ n
+room-there d n g = more-room d n g .1
 
-    module _ (s : Step) (is : s ≡ stepAt f place sums) (room : 16 ≤ length out₀ - filled) where
-      said-so : (x : Said) → s .said ≡ x → (stepAt f place sums) .said ≡ x
-      said-so x e = sym (ap (λ (r : Step). r .said) is) ∙ e
+pub turned : (f : List ℕ) (d : Filled) (out : List ℕ) → callsAgain d (length out) ≡ true
+    → length ((stepAt f (d .at) (d .tally)) .event) ≡ 16
+    → comesTo f (stepTaken (d .filled) (stepAt f (d .at) (d .tally))) (bufferTaken (d .filled) (stepAt f (d .at) (d .tally)) out)
+    ≡ comesTo f d out
+turned f d out g sized =
+    let m = more-room d (length out) g in
+    by-said f (d .at) (d .tally) (d .filled) out (m .1) _ refl sized
+    ∙ ap (λ (c : ℕ). ended (d .filled) out (readOn (enough f) c f (d .at) (d .tally)))
+    (sym (one-more f (d .at) (d .tally) (d .filled) out (m .1)))
+    ∙ rw (m .0)
 
-      -- where the loop goes on, the reader is nearer to its end
-      pub less : (x : Said) → s .said ≡ x → goesOn x ≡ true → ahead f (s .at) (s .tally) < ahead f place sums
-      less x e g = subst (λ (q : Step). ahead f (q .at) (q .tally) < ahead f place sums) (sym is) (moves-on f place sums (ap goesOn (said-so x e) ∙ g))
+-- ---- the end
+says-event : (x : Said) → saysMore x ≡ true → x ≡ Event
+says-event Event e = refl
+says-event (Skipped why) e = clash e refl
+says-event Finished e = clash e refl
+says-event (Refused n) e = clash e refl
 
-      pub gives : s .said ≡ Event → length (s .event) ≡ 16 → Filling (paste out filled (s .event) 16) (s .at) (s .tally) (filled + 16)
-      gives e n =
-          let r = still (filled + 16) (s .at) (s .tally) in
-          let turned : still filled place sums ≡ withEvent (s .event) r =
-          one-less room ∙ turn-event left f place sums (said-so Event e)
-          ∙ ap (λ (q : Step). withEvent (q .event) (readOn (enough f) left f (q .at) (q .tally))) (sym is) in
-          let both = onto (withEvent (s .event) r) turned in
-          record {
-            sized = length-paste out filled (s .event) 16 (omega (arith, now .sized)) (omega arith) ∙ now .sized;
-            within = omega arith;
-            answers = both .0 ∙ filled-more (s .event) r filled;
-            holds = both .1 ∙ written-more (s .event) r filled out n (omega (arith, now .sized));
-          }
+pub over : (f : List ℕ) (d : Filled) (out : List ℕ) → callsAgain d (length out) ≡ false → comesTo f d out ≡ (d, out)
+over f d out g =
+    both (saysMore (d .said))
+    (λ m.
+    let none : length out < d .filled + 16 = leb-false (d .filled + 16) (length out) (rw m at g) in
+    let no-room : (length out - d .filled) / 16 ≡ 0 = omega (arith, none) in
+    rw m
+    (ap (λ (c : ℕ). ended (d .filled) out (readOn (enough f) c f (d .at) (d .tally))) no-room
+    ∙ ap (ended (d .filled) out) (turn-full (enough f) f (d .at) (d .tally))
+    ∙ stop-is (d .filled) out Event (d .at) (d .tally)
+    ∙ ap (λ (x : Said). (record { said = x; at = d .at; tally = d .tally; filled = d .filled }, out)) (sym (says-event (d .said) m))))
+    (λ m. rw m refl)
 
-      pub passes : (why : ℕ) → s .said ≡ Skipped why → Filling out (s .at) (s .tally) filled
-      passes why e =
-          let turned : still filled place sums ≡ still filled (s .at) (s .tally) =
-          one-less room ∙ turn-skipped left f place sums why (said-so (Skipped why) e)
-          ∙ ap (λ (q : Step). readOn (enough f) (suc left) f (q .at) (q .tally)) (sym is)
-          ∙ sym (ap (λ (n : ℕ). readOn (enough f) n f (s .at) (s .tally)) (more room)) in
-          let both = onto (still filled (s .at) (s .tally)) turned in
-          record { sized = now .sized; within = now .within; answers = both .0; holds = both .1 }
-        where
-          more : 16 ≤ length out₀ - filled → (length out₀ - filled) / 16 ≡ suc left
-          more room = omega arith
+-- ---- each turn brings the end nearer
 
-      pub stops : (x : Said) → s .said ≡ x → goesOn x ≡ false
-          → (record { said = x; at = s .at; tally = s .tally; filled = filled } ≡ filledBy all) × (out ≡ written all out₀)
-      stops x e over =
-          let turned : still filled place sums ≡ stopped x (s .at) (s .tally) =
-          one-less room ∙ turn left f place sums ∙ over-by x (said-so x e) over
-          ∙ ap (λ (q : Step). stopped x (q .at) (q .tally)) (sym is) in
-          let both = onto (stopped x (s .at) (s .tally)) turned in
-          (sym (both .0 ∙ filled-last x (s .at) (s .tally) filled), sym (both .1 ∙ written-last x (s .at) (s .tally) filled out))
-        where
-          over-by : (x : Said) → (stepAt f place sums) .said ≡ x → goesOn x ≡ false
-              → bySaid ((stepAt f place sums) .said)
-              (withEvent ((stepAt f place sums) .event) (readOn (enough f) left f ((stepAt f place sums) .at) ((stepAt f place sums) .tally)))
-              (readOn (enough f) (suc left) f ((stepAt f place sums) .at) ((stepAt f place sums) .tally))
-              (stopped ((stepAt f place sums) .said) ((stepAt f place sums) .at) ((stepAt f place sums) .tally))
-              ≡ stopped x ((stepAt f place sums) .at) ((stepAt f place sums) .tally)
-          over-by Event e g = clash refl g
-          over-by (Skipped why) e g = clash refl g
-          over-by Finished e g = rw e
-          over-by (Refused n) e g = rw e
+-- the turns that may still come
+abbrev pub turnsLeft : List ℕ → Filled → ℕ
+turnsLeft f d = cond (saysMore (d .said)) (suc (ahead f (d .at) (d .tally))) 0
 
-    -- no room for another
-    pub fills : length out₀ - filled < 16
-        → (record { said = Event; at = place; tally = sums; filled = filled } ≡ filledBy all) × (out ≡ written all out₀)
-    fills narrow =
-        let k : (length out₀ - filled) / 16 ≡ 0 = omega arith in
-        let turned : still filled place sums ≡ stopped Event place sums =
-        ap (λ (n : ℕ). readOn (enough f) n f place sums) k ∙ turn-full (enough f) f place sums in
-        let both = onto (stopped Event place sums) turned in
-        (sym (both .0 ∙ filled-last Event place sums filled), sym (both .1 ∙ written-last Event place sums filled out))
+after : (f : List ℕ) (at : ℕ) (t : Tally) (n : ℕ) (x : Said) → (stepAt f at t) .said ≡ x
+    → turnsLeft f (stepTaken n (stepAt f at t)) < suc (ahead f at t)
+after f at t n Event e = rw e (omega (arith, moves-on f at t (rw e refl)))
+after f at t n (Skipped why) e = rw e (omega (arith, moves-on f at t (rw e refl)))
+after f at t n Finished e = rw e (omega arith)
+after f at t n (Refused x) e = rw e (omega arith)
+
+pub fewer : (f : List ℕ) (d : Filled) (n : ℕ) → callsAgain d n ≡ true
+    → turnsLeft f (stepTaken (d .filled) (stepAt f (d .at) (d .tally))) < turnsLeft f d
+fewer f d n g = rw (more-room d n g .0) (after f (d .at) (d .tally) (d .filled) _ refl)

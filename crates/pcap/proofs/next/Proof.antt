@@ -118,7 +118,7 @@ module _ {M : Type 1} (𝓤 : URA M) (H : Heap 𝓤) (A : Atoms 𝓤) (W : Given
       twice ! κ (d .bytes) $
       -- step_at(reader.bytes, reader.at, reader.tally)
       move ! (12 ∷ 0 ∷ []) $ use2 W (raw (StepAt 𝓤 H A mem run .pre to)) goes $
-      calls-for ! fm κ q (StepAt 𝓤 H A mem run) known to
+      calls-for ! fm (Tokens κ q) (StepAt 𝓤 H A mem run) known to
       (and-then ! (load ! (from ! (stop !)) (look ! 6 refl)) (and-then ! (load ! (from ! (stop !)) (look ! 4 refl))
       (and-then ! (load ! (from ! (stop !)) (look ! 2 refl)) (no-more !))))
       S.the-row answer (LL.tells S.the-type S′.the-laws) told (λ u. id⊢ 𝓤 _) found fixed (λ given.
