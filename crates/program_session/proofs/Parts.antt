@@ -21,7 +21,7 @@ use borrow.Table.Elements.{at}
 use borrow.Table.Owned as owned
 use borrow.Rule.Slice.Prefix.{shs-part-same}
 use borrow.Rule.Array.Share.{room-take, room-drop}
-use Rattle.ring.proofs.Slices.{ref, sval, Shr, halved-u8}
+use Rattle.walks.proofs.Slices.{ref, sval, Shr, halved-u8}
 
 at-place : (o s i : ℕ) → at o s i ≡ place s o i
 at-place o s zero = refl

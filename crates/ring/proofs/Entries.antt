@@ -33,7 +33,7 @@ use Rattle.ring.specs.declared.Entry.{Entry}
 use Rattle.ring.specs.Ring.{blank}
 use Rattle.ring.proofs.Entry as T
 use Rattle.ring.proofs.Entry.Laws as T′
-use Rattle.ring.proofs.Slices.{ref, sval, Shr, Res, Frac}
+use Rattle.walks.proofs.Slices.{ref, sval, Shr, Res, Frac}
 
 abbrev pub E : RattleType
 E = T.the-row

@@ -51,9 +51,9 @@ use Rattle.engine.proofs.Whole.{whole-event}
 use Rattle.ring.proofs.Entry as T
 use Rattle.ring.proofs.Entry.Laws as T′
 use Rattle.ring.proofs.Entries.{E}
-use Rattle.ring.proofs.Slices.{ref, sval, Shr, Mut}
-use Rattle.ring.proofs.Loans.{lend-shr, back-shr}
-use Rattle.ring.proofs.Steps.{bare, here, local, has, free-all}
+use Rattle.walks.proofs.Slices.{ref, sval, Shr, Mut}
+use Rattle.walks.proofs.Loans.{lend-shr, back-shr}
+use Rattle.walks.proofs.Steps.{bare, here, local, has, free-all}
 use Rattle.roster.specs.declared.Roster.{Roster}
 use Rattle.engine.specs.declared.Lookup.{Lookup}
 use Rattle.answers.specs.declared.Reaction.{Reaction}

@@ -55,9 +55,9 @@ use Rattle.engine.specs.Looking.{redrawn}
 use Rattle.ring.proofs.Entry as T
 use Rattle.ring.proofs.Entry.Laws as T′
 use Rattle.ring.proofs.Entries.{E, vals, tells, makes}
-use Rattle.ring.proofs.Slices.{ref, sval, Mut, gives-up}
+use Rattle.walks.proofs.Slices.{ref, sval, Mut, gives-up}
 use Rattle.ring.proofs.Arrays.{array-of}
-use Rattle.ring.proofs.Steps.{bare, here, local, free, has, free-all}
+use Rattle.walks.proofs.Steps.{bare, here, local, free, has, free-all}
 use Rattle.roster.proofs.Roster as Ro
 use Rattle.roster.proofs.Roster.Laws as RoL
 use Rattle.engine.proofs.plan_of as plan-of

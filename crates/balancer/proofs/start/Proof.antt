@@ -42,8 +42,8 @@ use Rattle.roster.specs.declared.Roster.{Roster}
 use Rattle.rules.specs.declared.Outcome.{Outcome}
 use Rattle.rules.specs.Rules.{worldWith, StartPromise}
 use Rattle.ring.proofs.Entries.{E}
-use Rattle.ring.proofs.Slices.{ref, sval, Shr, Mut}
-use Rattle.ring.proofs.Steps.{bare, here, local, has, free-all}
+use Rattle.walks.proofs.Slices.{ref, sval, Shr, Mut}
+use Rattle.walks.proofs.Steps.{bare, here, local, has, free-all}
 use Rattle.roster.proofs.Roster as Ro
 use Rattle.roster.proofs.Roster.Laws as RoL
 use Rattle.rules.proofs.Outcome as Oc

@@ -47,9 +47,9 @@ use Rattle.program_bench.specs.declared.work.Plan.{Plan}
 use Rattle.program_bench.specs.declared.work.Work.{Work}
 use Rattle.ring.proofs.Entry as T
 use Rattle.ring.proofs.Entries.{E}
-use Rattle.ring.proofs.Slices.{ref, sval, Shr, Mut, gives-up}
-use Rattle.ring.proofs.Steps.{bare, here, local, big-lit, rest, free, has, locals, free-all}
-use Rattle.ring.proofs.Loans.{lend-mut, back-mut, lend-shr, back-shr}
+use Rattle.walks.proofs.Slices.{ref, sval, Shr, Mut, gives-up}
+use Rattle.walks.proofs.Steps.{bare, here, local, big-lit, rest, free, has, locals, free-all}
+use Rattle.walks.proofs.Loans.{lend-mut, back-mut, lend-shr, back-shr}
 use Rattle.roster.proofs.Roster as Ro
 use Rattle.roster.proofs.Roster.Laws as RoL
 use Rattle.program_bench.proofs.work.Plan as Pn

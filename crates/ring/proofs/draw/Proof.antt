@@ -48,10 +48,10 @@ use Rattle.ring.specs.declared.Entry.{Entry}
 use Rattle.ring.proofs.Entry as T
 use Rattle.ring.proofs.Entry.Laws as T′
 use Rattle.ring.proofs.Entries.{E, vals, tells, at, typed, makes, fits-place, entry-out, entry-back, entry-put}
-use Rattle.ring.proofs.Slices.{ref, sval, recount}
-use Rattle.ring.proofs.Loans.{Opened, open-mut, shut-mut}
+use Rattle.walks.proofs.Slices.{ref, sval, recount}
+use Rattle.walks.proofs.Loans.{Opened, open-mut, shut-mut}
 use Rattle.ring.proofs.Arrays.{array-of, slot-row, row-room}
-use Rattle.ring.proofs.Steps.{here, local, rest, free, has, away, locals, free-all}
+use Rattle.walks.proofs.Steps.{here, local, rest, free, has, away, locals, free-all}
 use Rattle.ring.proofs.Writing.{written, too-many, too-short, as-long, one-more, all-written}
 use Rattle.ring.proofs.draw.Key.{name as #ring·draw}
 use Rattle.ring.proofs.draw as draw

@@ -50,8 +50,8 @@ use Rattle.ring.specs.declared.Entry.{Entry}
 use Rattle.ring.proofs.Entry as T
 use Rattle.ring.proofs.Entry.Laws as T′
 use Rattle.ring.proofs.Entries.{E, at, Known, typed, made, makes, fits-place, entry-out, entry-back, Looked, open-ring, shut-ring}
-use Rattle.ring.proofs.Slices.{ref, sval, Shr}
-use Rattle.ring.proofs.Steps.{bare, here, local, rest, free, has, locals, free-all}
+use Rattle.walks.proofs.Slices.{ref, sval, Shr}
+use Rattle.walks.proofs.Steps.{bare, here, local, rest, free, has, locals, free-all}
 use Rattle.ring.proofs.Search.{reach, gives-from, empty, not-empty, starts, found, passed, none}
 use Rattle.ring.proofs.lower as lower
 use Rattle.ring.proofs.lower.Symbol as lower-def

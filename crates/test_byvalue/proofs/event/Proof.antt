@@ -54,10 +54,10 @@ use Rattle.test_byvalue.proofs.Tried.Laws as TrL
 use Rattle.ring.proofs.Entry as T
 use Rattle.ring.proofs.Entry.Laws as T′
 use Rattle.ring.proofs.Entries.{E, vals, tells, makes}
-use Rattle.ring.proofs.Slices.{ref, sval, Shr, Mut}
-use Rattle.ring.proofs.Steps.{bare, here, local, has, free-all}
+use Rattle.walks.proofs.Slices.{ref, sval, Shr, Mut}
+use Rattle.walks.proofs.Steps.{bare, here, local, has, free-all}
 use Rattle.ring.proofs.Arrays.{array-of, slot-row}
-use Rattle.ring.proofs.Loans.{lend-row, back-row}
+use Rattle.walks.proofs.Loans.{lend-row, back-row}
 use Rattle.roster.proofs.Roster as Ro
 use Rattle.roster.proofs.Roster.Laws as RoL
 use Rattle.rules.proofs.Outcome as Oc

@@ -49,10 +49,10 @@ use Rattle.rules.specs.Rules.{worldWith, StartPromise}
 use Rattle.ring.proofs.Entry as T
 use Rattle.ring.proofs.Entry.Laws as T′
 use Rattle.ring.proofs.Entries.{E, vals, tells, makes}
-use Rattle.ring.proofs.Slices.{ref, sval, Shr, Mut}
-use Rattle.ring.proofs.Steps.{bare, here, local, free, has, free-all}
+use Rattle.walks.proofs.Slices.{ref, sval, Shr, Mut}
+use Rattle.walks.proofs.Steps.{bare, here, local, free, has, free-all}
 use Rattle.ring.proofs.Arrays.{array-of, slot-row, row-room}
-use Rattle.ring.proofs.Loans.{share-row, unshare-row}
+use Rattle.walks.proofs.Loans.{share-row, unshare-row}
 use Rattle.roster.proofs.Roster as Ro
 use Rattle.roster.proofs.Roster.Laws as RoL
 use Rattle.rules.proofs.Outcome as Oc

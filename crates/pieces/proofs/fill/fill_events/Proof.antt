@@ -41,9 +41,9 @@ use denote.Triple.Spec.{Meets, tripleOf}
 use denote.Triple.Table.{entered, cited}
 use denote.Triple.Walked.{says, Stays, stay-slice, stay-none-slice, stay-none, walkOf, goes-slice, goes-none-slice, goes-none, Walks, ends-at, walked, walk-meets}
 use denote.Exit.{yes}
-use Rattle.ring.proofs.Slices.{ref, sval, Mut, recount}
-use Rattle.ring.proofs.Loans.{lend-mut, back-mut}
-use Rattle.ring.proofs.Steps.{bare, here, local, rest, free, has, locals, free-all}
+use Rattle.walks.proofs.Slices.{ref, sval, Mut, recount}
+use Rattle.walks.proofs.Loans.{lend-mut, back-mut}
+use Rattle.walks.proofs.Steps.{bare, here, local, rest, free, has, locals, free-all}
 use Rattle.pcap.specs.Reading.{stepAt}
 use Rattle.pcap.specs.declared.Reader.{Reader}
 use Rattle.pcap.specs.declared.Step.{Step}

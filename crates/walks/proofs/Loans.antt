@@ -27,7 +27,7 @@ use denote.Shadow.{pureL, pureI}
 use denote.Slice.{Room, finally, at-slice}
 use denote.Lend.{Held, lends-slice, lends-shr-slice, slice-back}
 use denote.Index.{row, whole-in, whole-out, opens-slice, closes-slice}
-use Rattle.ring.proofs.Slices.{ref, sval, Shr, Mut, Obs, Auth}
+use Rattle.walks.proofs.Slices.{ref, sval, Shr, Mut, Obs, Auth}
 
 module _ (R : RattleType) (κ : Lft) (q : Share) (b o : ℕ) (γ : GName) (l : List (R .Denot)) where
   abbrev pub Opened : Fml
