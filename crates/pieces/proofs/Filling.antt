@@ -16,7 +16,8 @@ use Rattle.pcap.specs.declared.Tally.{Tally}
 use Rattle.pcap.specs.declared.Step.{Step}
 use Rattle.pcap.specs.Reading.{stepAt}
 use Rattle.pieces.specs.declared.Filled.{Filled}
-use Rattle.pieces.specs.Pieces.{Ran, stopped, withEvent, readOn, enough, roomFor, joined, filledBy, written, begun, saysMore, callsAgain, stepTaken, bufferTaken}
+use Rattle.pieces.specs.Pieces.{Ran, stopped, withEvent, readOn, enough, roomFor, joined, filledBy, written}
+use Rattle.pieces.specs.Turns.{begun, saysMore, callsAgain, stepTaken, bufferTaken}
 use Rattle.pieces.proofs.Turns.{ahead, moves-on, turn-full, turn-event, turn-skipped, turn-finished, turn-refused}
 
 -- what is answered, and the buffer: what a loop that has filled n bytes comes to, when the reader gives r from there on

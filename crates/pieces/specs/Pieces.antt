@@ -4,7 +4,6 @@ use Prim.Native.Nat.{ℕ, zero, suc, _+_, _*_, _-_, _/_}
 use mathlib.Core.Bool.{Bool, true, false, cond}
 use mathlib.Core.List.{List, [], _∷_, _++_}
 use lib.Dec.{eqb, leb, ltb}
-use lib.Seq.{paste}
 use lib.ListN.{length, getD, take, drop}
 use Rattle.spans.specs.Spans.{closed}
 use Rattle.event.specs.Event.{eventBytes}
@@ -67,34 +66,6 @@ filledBy r = record { said = r .said; at = r .at; tally = r .tally; filled = eve
 
 abbrev pub written : Ran → List ℕ → List ℕ
 written r out = joined (r .events) ++ drop (eventBytes * length (r .events)) out
-
--- the same turn by turn. Something filled says `Event` while there may be more
-abbrev pub begun : ℕ → Tally → Filled
-begun at t = record { said = Event; at = at; tally = t; filled = 0 }
-
-abbrev pub saysMore : Said → Bool
-saysMore Event = true
-saysMore (Skipped why) = false
-saysMore Finished = false
-saysMore (Refused n) = false
-
--- the reader is called again where there may be more, and the buffer's n bytes have room for it
-abbrev pub callsAgain : Filled → ℕ → Bool
-callsAgain d n = cond (saysMore (d .said)) (leb (d .filled + eventBytes) n) false
-
--- what a call's answer comes to: where the reader is then, and the buffer
-abbrev pub saidThen : Said → Said
-saidThen Event = Event
-saidThen (Skipped why) = Event
-saidThen Finished = Finished
-saidThen (Refused n) = Refused n
-
-abbrev pub stepTaken : ℕ → Step → Filled
-stepTaken filled s =
-    record { said = saidThen (s .said); at = s .at; tally = s .tally; filled = cond (saysMore (s .said)) (filled + eventBytes) filled }
-
-abbrev pub bufferTaken : ℕ → Step → List ℕ → List ℕ
-bufferTaken filled s out = cond (saysMore (s .said)) (paste out filled (s .event) eventBytes) out
 
 -- a packet is read by its first 88 bytes: 14 of Ethernet, at most 60 of IPv4, 14 up to TCP's flags
 abbrev pub mostRead : ℕ

@@ -65,7 +65,7 @@ use Rattle.pcap.proofs.next.Symbol as next-def
 use Rattle.pcap.proofs.next.Symbol.{name as #pcap·next}
 use Rattle.pcap.proofs.next.Met as next-thm
 use Rattle.pieces.specs.declared.Filled.{Filled}
-use Rattle.pieces.specs.Pieces.{begun as begun-at, callsAgain, stepTaken, bufferTaken}
+use Rattle.pieces.specs.Turns.{begun as begun-at, callsAgain, stepTaken, bufferTaken}
 use Rattle.pieces.proofs.Filled as Fi
 use Rattle.pieces.proofs.Filled.Laws as Fi′
 use Rattle.pieces.proofs.Filling.{Result, comesTo, promised, begins, turned, over, room-there, turnsLeft, fewer}
