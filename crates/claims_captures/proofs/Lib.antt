@@ -4,3 +4,6 @@ pub mod Sums
 pub mod Files
 pub mod ReadAll
 pub mod Stops
+pub mod Stands
+pub mod First
+pub mod EventsRead

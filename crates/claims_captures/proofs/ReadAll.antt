@@ -21,7 +21,7 @@ use Rattle.pcap.specs.Captures.{lowFirst, ethernet, headerRefusal, headerBytes,
 use Rattle.pcap.specs.Reading.{nothing, stepAt, meets, silent, withOne}
 use Rattle.pieces.specs.Pieces.{Ran, stopped, withEvent, readOn, enough}
 use Rattle.pieces.proofs.Turns.{turn, turn-full, turn-event, turn-skipped, turn-finished, turn-refused, whole-behind, ahead}
-use Rattle.claims_captures.proofs.Records.{few-whole, packetsOf, leftOf, packets-unfold, unread-unfold, behind-length}
+use Rattle.claims_captures.proofs.Records.{few-whole, packetsOf, leftOf, packets-first, left-first, packets-none, left-all, behind-length}
 use Rattle.claims_captures.specs.Captured.{withEvents, sumsOf, countsOf, lastSaid, ReadsAll, Reading, ReadingExactly}
 use Rattle.claims_captures.proofs.Sums.{counting, counting-sums}
 use Rattle.claims_captures.proofs.Files.{sound-long, packets-behind, refusal-left, refused-left, refusal-bad}
@@ -101,18 +101,10 @@ through f t ps left =
 -- a whole record: its packet comes first, and the others from the place behind it on
 module _ (low : Bool) (f : List ℕ) (at : ℕ) (w : whole low (drop at f) ≡ true) where
   packets-next : packetsOf low (drop at f) ≡ packet low (drop at f) ∷ packetsOf low (drop (at + recordSize low (drop at f)) f)
-  packets-next = packets-unfold low (drop at f) ∙ rw (w, drop-drop (recordSize low (drop at f)) at f)
+  packets-next = packets-first low (drop at f) w ∙ rw (drop-drop (recordSize low (drop at f)) at f)
 
   left-next : leftOf low (drop at f) ≡ leftOf low (drop (at + recordSize low (drop at f)) f)
-  left-next = unread-unfold low (drop at f) ∙ rw (w, drop-drop (recordSize low (drop at f)) at f)
-
--- no whole record
-module _ (low : Bool) (bytes : List ℕ) (w : whole low bytes ≡ false) where
-  packets-none : packetsOf low bytes ≡ []
-  packets-none = packets-unfold low bytes ∙ rw w
-
-  left-all : leftOf low bytes ≡ bytes
-  left-all = unread-unfold low bytes ∙ rw w
+  left-next = left-first low (drop at f) w ∙ rw (drop-drop (recordSize low (drop at f)) at f)
 
 -- at the end
 read-end : (k : ℕ) (f : List ℕ) (at : ℕ) (t : Tally) → eqb (headerRefusal f) 0 ≡ true → at ≤ length f → length f - at ≤ 0
