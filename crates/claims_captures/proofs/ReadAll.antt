@@ -18,7 +18,7 @@ use Rattle.pcap.specs.declared.Said.the-variants.{Event, Skipped, Finished, Ref
 use Rattle.pcap.specs.declared.Tally.{Tally}
 use Rattle.pcap.specs.declared.Step.{Step}
 use Rattle.pcap.specs.Captures.{lowFirst, ethernet, headerRefusal, headerBytes, whole, recordSize, packet, behind, packets, eventRecord, eventsOf, allEvents, counted, readIn, outcomesIn, refusalIn, shortRecord}
-use Rattle.pcap.specs.Reading.{nothing, stepAt, meets, silent, withOne}
+use Rattle.pcap.specs.Reading.{nothing, stepAt, recordAt, meets, silent, withOne}
 use Rattle.pieces.specs.Pieces.{Ran, stopped, withEvent, readOn, enough}
 use Rattle.pieces.proofs.Turns.{turn, turn-full, turn-event, turn-skipped, turn-finished, turn-refused, whole-behind, ahead}
 use Rattle.claims_captures.proofs.Records.{few-whole, packetsOf, leftOf, packets-first, left-first, packets-none, left-all, behind-length}
@@ -34,12 +34,12 @@ module _ (f : List ℕ) (at : ℕ) (t : Tally) (sound : eqb (headerRefusal f) 0 
   step-end h = rw (sound, le-ltb at (length f) h)
 
   step-short : at < length f → whole (lowFirst f) (drop at f) ≡ false → stepAt f at t ≡ silent (Refused shortRecord) at t
-  unfolding stepAt
+  unfolding stepAt recordAt
   step-short h w = rw (sound, lt-ltb at (length f) h, w)
 
   step-packet : at < length f → whole (lowFirst f) (drop at f) ≡ true
       → stepAt f at t ≡ meets (outcome (ethernet f) (packet (lowFirst f) (drop at f))) at (at + recordSize (lowFirst f) (drop at f)) t
-  unfolding stepAt
+  unfolding stepAt recordAt
   step-packet h w = rw (sound, lt-ltb at (length f) h, w)
 
 -- ---- the turns at one packet
@@ -65,7 +65,7 @@ packet-turns : (j : ℕ) (f : List ℕ) (at next : ℕ) (t : Tally) (o : Outcome
     → ((s : Tally) → stepAt f at s ≡ meets o at next s) → t .due ≡ false
     → readOn (enough f) (length (eventsOf o) + suc j) f at t
     ≡ withEvents (eventsOf o) (readOn (enough f) (suc j) f next (withOne (o .reason) false t))
-unfolding meets
+unfolding meets withOne
 packet-turns j f at next t o step due =
     both (eqb (o .reason) emitted) (λ e. let r : o .reason ≡ 0 = eqb-true (o .reason) emitted e in
     both (o .fin) (λ fin.
@@ -131,7 +131,7 @@ read-short k f at t sound h w =
 pub read-from : (m k : ℕ) (f : List ℕ) (at : ℕ) (t : Tally) → eqb (headerRefusal f) 0 ≡ true → t .due ≡ false → at ≤ length f → length f - at ≤ m
     → length (allEvents (map (outcome (ethernet f)) (packetsOf (lowFirst f) (drop at f)))) ≤ k
     → readOn (enough f) (suc k) f at t ≡ through f t (packetsOf (lowFirst f) (drop at f)) (leftOf (lowFirst f) (drop at f))
-unfolding allEvents
+unfolding allEvents withOne
 read-from zero k f at t sound due within far room = read-end k f at t sound within far
 read-from (suc m) k f at t sound due within far room =
     both (ltb at (length f)) (λ more. let h = ltb-true at (length f) more in
