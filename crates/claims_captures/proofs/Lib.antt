@@ -7,3 +7,9 @@ pub mod Stops
 pub mod Stands
 pub mod First
 pub mod EventsRead
+pub mod Windows
+pub mod Cut
+pub mod Carries
+pub mod WindowRead
+pub mod Streams
+pub mod PiecesSame

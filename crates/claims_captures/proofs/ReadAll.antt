@@ -29,15 +29,15 @@ use Rattle.claims_captures.proofs.Files.{sound-long, packets-behind, re
 -- ---- one call, by what it meets
 
 module _ (f : List ℕ) (at : ℕ) (t : Tally) (sound : eqb (headerRefusal f) 0 ≡ true) where
-  step-end : length f ≤ at → stepAt f at t ≡ silent Finished at t
+  pub step-end : length f ≤ at → stepAt f at t ≡ silent Finished at t
   unfolding stepAt
   step-end h = rw (sound, le-ltb at (length f) h)
 
-  step-short : at < length f → whole (lowFirst f) (drop at f) ≡ false → stepAt f at t ≡ silent (Refused shortRecord) at t
+  pub step-short : at < length f → whole (lowFirst f) (drop at f) ≡ false → stepAt f at t ≡ silent (Refused shortRecord) at t
   unfolding stepAt recordAt
   step-short h w = rw (sound, lt-ltb at (length f) h, w)
 
-  step-packet : at < length f → whole (lowFirst f) (drop at f) ≡ true
+  pub step-packet : at < length f → whole (lowFirst f) (drop at f) ≡ true
       → stepAt f at t ≡ meets (outcome (ethernet f) (packet (lowFirst f) (drop at f))) at (at + recordSize (lowFirst f) (drop at f)) t
   unfolding stepAt recordAt
   step-packet h w = rw (sound, lt-ltb at (length f) h, w)
@@ -57,7 +57,7 @@ module _ (k : ℕ) (f : List ℕ) (at : ℕ) (t : Tally) where
   ended-turn : stepAt f at t ≡ silent Finished at t → readOn (enough f) (suc k) f at t ≡ stopped Finished at t
   ended-turn step = turn k f at t ∙ rw step
 
-  refused-turn : (n : ℕ) → stepAt f at t ≡ silent (Refused n) at t → readOn (enough f) (suc k) f at t ≡ stopped (Refused n) at t
+  pub refused-turn : (n : ℕ) → stepAt f at t ≡ silent (Refused n) at t → readOn (enough f) (suc k) f at t ≡ stopped (Refused n) at t
   refused-turn n step = turn k f at t ∙ rw step
 
 -- a whole packet: its events are given, it is counted, and the reader is behind it; there must be room for one event more than it gives
@@ -181,7 +181,7 @@ reads-bad f bad =
       sums-are = rw bad;
     }
 
-step-bad : (f : List ℕ) (at : ℕ) (t : Tally) → eqb (headerRefusal f) 0 ≡ false → stepAt f at t ≡ silent (Refused (headerRefusal f)) at t
+pub step-bad : (f : List ℕ) (at : ℕ) (t : Tally) → eqb (headerRefusal f) 0 ≡ false → stepAt f at t ≡ silent (Refused (headerRefusal f)) at t
 unfolding stepAt
 step-bad f at t bad = rw bad
 

@@ -57,10 +57,10 @@ module _ (f more : List ℕ) (sound : eqb (headerRefusal f) 0 ≡ true) where
   behind-carried : drop headerBytes (carriedOn f more) ≡ leftOf (lowFirst f) (drop headerBytes f) ++ more
   behind-carried = behind-header f (drop (refusedAt f) f ++ more) long ∙ ap (λ (l : List ℕ). l ++ more) (sym (left-from f sound))
 
-  longer : SameHeader (f ++ more) f
+  pub longer : SameHeader (f ++ more) f
   longer = header-append f more long
 
-  carried : SameHeader (carriedOn f more) f
+  pub carried : SameHeader (carriedOn f more) f
   carried = header-other f (drop (refusedAt f) f ++ more) long
 
   packets-on : packetsIn (f ++ more) ≡ packetsIn f ++ packetsIn (carriedOn f more)
@@ -70,7 +70,7 @@ module _ (f more : List ℕ) (sound : eqb (headerRefusal f) 0 ≡ true) where
       ∙ packets-append (length (drop headerBytes f)) (lowFirst f) (drop headerBytes f) more (omega arith)
       ∙ rw (packets-too f (carriedOn f more) carried sound, behind-carried, packets-behind f sound)
 
-  outcomes-on : outcomesIn (f ++ more) ≡ outcomesIn f ++ outcomesIn (carriedOn f more)
+  pub outcomes-on : outcomesIn (f ++ more) ≡ outcomesIn f ++ outcomesIn (carriedOn f more)
   outcomes-on =
       outcomes-too f (f ++ more) longer sound
       ∙ ap (map (outcome (ethernet f))) packets-on
