@@ -5,12 +5,14 @@ use mathlib.Core.List.{List, [], _∷_, _++_, map}
 use mathlib.Core.Path.{_≡_, refl, sym, ap, _∙_}
 use native.Mathlib.Omega.{arith}
 use lib.Dec.{eqb, ltb}
-use lib.ListN.{length, drop, length-drop}
-use borrow.Author.Tests.{ltb-false, eqb-true, eqb-false, eq-eqb}
+use lib.ListN.{length, getD, take, drop, length-drop, length-append, List·getD-append}
+use lib.Seq.{length-take-le, getD-take, drop-at, drop-drop, drop-append-le}
+use Rattle.bigendian.specs.BigEndian.{number4At}
+use borrow.Author.Tests.{ltb-false, le-ltb, eqb-true, eqb-false, eq-eqb}
 use Rattle.sets.proofs.Cases.{both, clash}
 use Rattle.frames.specs.Frames.{outcome}
 use Rattle.pcap.specs.Captures.{lowFirst, highFirst, ethernet, headerRefusal, headerBytes, packetsIn, outcomesIn, unreadIn, refusalIn, refusedAt, shortRecord, badMagic, shortHeader}
-use Rattle.claims_captures.proofs.Records.{packetsOf, leftOf, packets-end, unread-end}
+use Rattle.claims_captures.proofs.Records.{packetsOf, leftOf, packets-end, unread-end, Last, left-last}
 
 -- a sound header is all there
 pub sound-long : (f : List ℕ) → eqb (headerRefusal f) 0 ≡ true → headerBytes ≤ length f
@@ -52,3 +54,68 @@ module _ (f : List ℕ) (bad : eqb (headerRefusal f) 0 ≡ false) where
   pub refused-bad : refusedAt f ≡ 0
   unfolding refusedAt
   refused-bad = rw bad
+
+-- ---- a header with other bytes behind it
+
+-- two files that begin alike for 24 bytes
+pub record SameHeader (f g : List ℕ) : Type 0 where
+  pub long : headerBytes ≤ length f
+  pub long′ : headerBytes ≤ length g
+  pub same : (i : ℕ) → i < headerBytes → getD f i 0 ≡ getD g i 0
+
+module _ {f g : List ℕ} (h : SameHeader f g) where
+  magic-same : number4At f 0 ≡ number4At g 0
+  magic-same = rw (h .same 0 (omega arith), h .same 1 (omega arith), h .same 2 (omega arith), h .same 3 (omega arith))
+
+  pub low-same : lowFirst f ≡ lowFirst g
+  low-same = ap (λ (n : ℕ). eqb n 3569595041) magic-same
+
+  high-same : highFirst f ≡ highFirst g
+  high-same = ap (λ (n : ℕ). eqb n 2712847316) magic-same
+
+  pub ethernet-same : ethernet f ≡ ethernet g
+  unfolding ethernet
+  ethernet-same =
+      rw (low-same, h .same 20 (omega arith), h .same 21 (omega arith), h .same 22 (omega arith), h .same 23 (omega arith))
+
+  pub refusal-same : headerRefusal f ≡ headerRefusal g
+  unfolding headerRefusal
+  refusal-same =
+      rw
+      (le-ltb (length f) 4 (omega (arith, h .long)), le-ltb (length g) 4 (omega (arith, h .long′)), le-ltb (length f) headerBytes (h .long), le-ltb (length g) headerBytes (h .long′), low-same, high-same)
+
+-- bytes behind the first 24 don't count
+pub header-append : (f g : List ℕ) → headerBytes ≤ length f → SameHeader (f ++ g) f
+header-append f g long =
+    record { long = rw (length-append f g) (omega arith); long′ = long; same = λ i h. List·getD-append f g 0 i (omega arith) }
+
+pub header-other : (f b : List ℕ) → headerBytes ≤ length f → SameHeader (take headerBytes f ++ b) f
+header-other f b long =
+    let n = length-take-le headerBytes f long in
+    record {
+      long = rw (length-append (take headerBytes f) b, n) (omega arith);
+      long′ = long;
+      same = λ i h. List·getD-append (take headerBytes f) b 0 i (omega arith) ∙ getD-take headerBytes f i 0 h;
+    }
+
+pub behind-header : (f b : List ℕ) → headerBytes ≤ length f → drop headerBytes (take headerBytes f ++ b) ≡ b
+behind-header f b long = drop-at (take headerBytes f) b headerBytes (length-take-le headerBytes f long)
+
+-- ---- where the unread bytes begin
+
+module _ (f : List ℕ) (sound : eqb (headerRefusal f) 0 ≡ true) where
+  refused-last : Last (drop headerBytes f) (leftOf (lowFirst f) (drop headerBytes f))
+  refused-last = left-last (length (drop headerBytes f)) (lowFirst f) (drop headerBytes f) (omega arith)
+
+  pub refused-within : refusedAt f ≤ length f
+  refused-within = rw (refused-left f sound) (omega arith)
+
+  pub refused-behind : headerBytes ≤ refusedAt f
+  refused-behind = rw (refused-left f sound) (omega (arith, refused-last .fewer, length-drop headerBytes f, sound-long f sound))
+
+  pub left-from : leftOf (lowFirst f) (drop headerBytes f) ≡ drop (refusedAt f) f
+  left-from =
+      let left = length (leftOf (lowFirst f) (drop headerBytes f)) in
+      let far : headerBytes + (length (drop headerBytes f) - left) ≡ refusedAt f =
+      rw (refused-left f sound) (omega (arith, refused-last .fewer, length-drop headerBytes f, sound-long f sound)) in
+      refused-last .last ∙ drop-drop (length (drop headerBytes f) - left) headerBytes f ∙ ap (λ (n : ℕ). drop n f) far

@@ -4,3 +4,12 @@ pub mod Sums
 pub mod Files
 pub mod ReadAll
 pub mod Stops
+pub mod Stands
+pub mod First
+pub mod EventsRead
+pub mod Windows
+pub mod Cut
+pub mod Carries
+pub mod WindowRead
+pub mod Streams
+pub mod PiecesSame

@@ -18,10 +18,10 @@ use Rattle.pcap.specs.declared.Said.the-variants.{Event, Skipped, Finished, Ref
 use Rattle.pcap.specs.declared.Tally.{Tally}
 use Rattle.pcap.specs.declared.Step.{Step}
 use Rattle.pcap.specs.Captures.{lowFirst, ethernet, headerRefusal, headerBytes, whole, recordSize, packet, behind, packets, eventRecord, eventsOf, allEvents, counted, readIn, outcomesIn, refusalIn, shortRecord}
-use Rattle.pcap.specs.Reading.{nothing, stepAt, meets, silent, withOne}
+use Rattle.pcap.specs.Reading.{nothing, stepAt, recordAt, meets, silent, withOne}
 use Rattle.pieces.specs.Pieces.{Ran, stopped, withEvent, readOn, enough}
 use Rattle.pieces.proofs.Turns.{turn, turn-full, turn-event, turn-skipped, turn-finished, turn-refused, whole-behind, ahead}
-use Rattle.claims_captures.proofs.Records.{few-whole, packetsOf, leftOf, packets-unfold, unread-unfold, behind-length}
+use Rattle.claims_captures.proofs.Records.{few-whole, packetsOf, leftOf, packets-first, left-first, packets-none, left-all, behind-length}
 use Rattle.claims_captures.specs.Captured.{withEvents, sumsOf, countsOf, lastSaid, ReadsAll, Reading, ReadingExactly}
 use Rattle.claims_captures.proofs.Sums.{counting, counting-sums}
 use Rattle.claims_captures.proofs.Files.{sound-long, packets-behind, refusal-left, refused-left, refusal-bad}
@@ -29,17 +29,17 @@ use Rattle.claims_captures.proofs.Files.{sound-long, packets-behind, re
 -- ---- one call, by what it meets
 
 module _ (f : List ℕ) (at : ℕ) (t : Tally) (sound : eqb (headerRefusal f) 0 ≡ true) where
-  step-end : length f ≤ at → stepAt f at t ≡ silent Finished at t
+  pub step-end : length f ≤ at → stepAt f at t ≡ silent Finished at t
   unfolding stepAt
   step-end h = rw (sound, le-ltb at (length f) h)
 
-  step-short : at < length f → whole (lowFirst f) (drop at f) ≡ false → stepAt f at t ≡ silent (Refused shortRecord) at t
-  unfolding stepAt
+  pub step-short : at < length f → whole (lowFirst f) (drop at f) ≡ false → stepAt f at t ≡ silent (Refused shortRecord) at t
+  unfolding stepAt recordAt
   step-short h w = rw (sound, lt-ltb at (length f) h, w)
 
-  step-packet : at < length f → whole (lowFirst f) (drop at f) ≡ true
+  pub step-packet : at < length f → whole (lowFirst f) (drop at f) ≡ true
       → stepAt f at t ≡ meets (outcome (ethernet f) (packet (lowFirst f) (drop at f))) at (at + recordSize (lowFirst f) (drop at f)) t
-  unfolding stepAt
+  unfolding stepAt recordAt
   step-packet h w = rw (sound, lt-ltb at (length f) h, w)
 
 -- ---- the turns at one packet
@@ -57,7 +57,7 @@ module _ (k : ℕ) (f : List ℕ) (at : ℕ) (t : Tally) where
   ended-turn : stepAt f at t ≡ silent Finished at t → readOn (enough f) (suc k) f at t ≡ stopped Finished at t
   ended-turn step = turn k f at t ∙ rw step
 
-  refused-turn : (n : ℕ) → stepAt f at t ≡ silent (Refused n) at t → readOn (enough f) (suc k) f at t ≡ stopped (Refused n) at t
+  pub refused-turn : (n : ℕ) → stepAt f at t ≡ silent (Refused n) at t → readOn (enough f) (suc k) f at t ≡ stopped (Refused n) at t
   refused-turn n step = turn k f at t ∙ rw step
 
 -- a whole packet: its events are given, it is counted, and the reader is behind it; there must be room for one event more than it gives
@@ -65,7 +65,7 @@ packet-turns : (j : ℕ) (f : List ℕ) (at next : ℕ) (t : Tally) (o : Outcome
     → ((s : Tally) → stepAt f at s ≡ meets o at next s) → t .due ≡ false
     → readOn (enough f) (length (eventsOf o) + suc j) f at t
     ≡ withEvents (eventsOf o) (readOn (enough f) (suc j) f next (withOne (o .reason) false t))
-unfolding meets
+unfolding meets withOne
 packet-turns j f at next t o step due =
     both (eqb (o .reason) emitted) (λ e. let r : o .reason ≡ 0 = eqb-true (o .reason) emitted e in
     both (o .fin) (λ fin.
@@ -101,18 +101,10 @@ through f t ps left =
 -- a whole record: its packet comes first, and the others from the place behind it on
 module _ (low : Bool) (f : List ℕ) (at : ℕ) (w : whole low (drop at f) ≡ true) where
   packets-next : packetsOf low (drop at f) ≡ packet low (drop at f) ∷ packetsOf low (drop (at + recordSize low (drop at f)) f)
-  packets-next = packets-unfold low (drop at f) ∙ rw (w, drop-drop (recordSize low (drop at f)) at f)
+  packets-next = packets-first low (drop at f) w ∙ rw (drop-drop (recordSize low (drop at f)) at f)
 
   left-next : leftOf low (drop at f) ≡ leftOf low (drop (at + recordSize low (drop at f)) f)
-  left-next = unread-unfold low (drop at f) ∙ rw (w, drop-drop (recordSize low (drop at f)) at f)
-
--- no whole record
-module _ (low : Bool) (bytes : List ℕ) (w : whole low bytes ≡ false) where
-  packets-none : packetsOf low bytes ≡ []
-  packets-none = packets-unfold low bytes ∙ rw w
-
-  left-all : leftOf low bytes ≡ bytes
-  left-all = unread-unfold low bytes ∙ rw w
+  left-next = left-first low (drop at f) w ∙ rw (drop-drop (recordSize low (drop at f)) at f)
 
 -- at the end
 read-end : (k : ℕ) (f : List ℕ) (at : ℕ) (t : Tally) → eqb (headerRefusal f) 0 ≡ true → at ≤ length f → length f - at ≤ 0
@@ -139,7 +131,7 @@ read-short k f at t sound h w =
 pub read-from : (m k : ℕ) (f : List ℕ) (at : ℕ) (t : Tally) → eqb (headerRefusal f) 0 ≡ true → t .due ≡ false → at ≤ length f → length f - at ≤ m
     → length (allEvents (map (outcome (ethernet f)) (packetsOf (lowFirst f) (drop at f)))) ≤ k
     → readOn (enough f) (suc k) f at t ≡ through f t (packetsOf (lowFirst f) (drop at f)) (leftOf (lowFirst f) (drop at f))
-unfolding allEvents
+unfolding allEvents withOne
 read-from zero k f at t sound due within far room = read-end k f at t sound within far
 read-from (suc m) k f at t sound due within far room =
     both (ltb at (length f)) (λ more. let h = ltb-true at (length f) more in
@@ -189,7 +181,7 @@ reads-bad f bad =
       sums-are = rw bad;
     }
 
-step-bad : (f : List ℕ) (at : ℕ) (t : Tally) → eqb (headerRefusal f) 0 ≡ false → stepAt f at t ≡ silent (Refused (headerRefusal f)) at t
+pub step-bad : (f : List ℕ) (at : ℕ) (t : Tally) → eqb (headerRefusal f) 0 ≡ false → stepAt f at t ≡ silent (Refused (headerRefusal f)) at t
 unfolding stepAt
 step-bad f at t bad = rw bad
 

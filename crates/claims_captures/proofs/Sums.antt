@@ -24,6 +24,7 @@ counting-append (o ∷ os) qs t = counting-append os qs (withOne (o .reason) fal
 
 -- no end is due then
 pub counting-due : (os : List Outcome) (t : Tally) → t .due ≡ false → (counting os t) .due ≡ false
+unfolding withOne
 counting-due [] t h = h
 counting-due (o ∷ os) t h = counting-due os (withOne (o .reason) false t) refl
 
@@ -74,6 +75,7 @@ of-all os = from-zero _ _ (total-is (λ o. true) os 0 (omega arith) ∙ ap (λ (
 
 -- from nothing on, the reader's sums are the outcomes' numbers modulo 2^64
 pub counting-sums : (os : List Outcome) → counting os nothing ≡ sumsOf os
+unfolding withOne
 counting-sums os i =
     record {
       due = counting-due os nothing refl i;

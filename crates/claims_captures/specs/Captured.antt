@@ -1,18 +1,20 @@
 -- Request [2], "Feeding in captures": what is proved of reading a capture.
 use Prim.Native.Nat.{ℕ, _+_, _*_, _-_, _≤_, _<_, _%_, _^_}
 use mathlib.Core.Bool.{Bool, true, false, cond}
+use mathlib.Core.Logic.{_⊎_}
 use mathlib.Core.Path.{_≡_}
 use mathlib.Core.List.{List, [], _∷_, _++_}
 use lib.Dec.{eqb}
-use lib.ListN.{length, take}
+use lib.ListN.{length, take, drop}
+use Rattle.event.specs.Event.{eventBytes, packetKind, endKind, asksKey, eventIn}
 use Rattle.frames.specs.declared.Outcome.{Outcome}
 use Rattle.frames.specs.Frames.{outcome, emitted, linkType, notIPv4, fragment, otherProtocol, cutShort}
 use Rattle.pcap.specs.declared.Said.{Said}
 use Rattle.pcap.specs.declared.Said.the-variants.{Event, Skipped, Finished, Refused}
 use Rattle.pcap.specs.declared.Tally.{Tally}
-use Rattle.pcap.specs.Captures.{headerBytes, counted, readIn, countedIn, outcomesIn, eventsIn, headerRefusal, refusalIn, refusedAt}
+use Rattle.pcap.specs.Captures.{headerBytes, counted, packetsIn, readIn, countedIn, outcomesIn, eventsIn, headerRefusal, refusalIn, refusedAt}
 use Rattle.pcap.specs.Reading.{nothing, stepAt}
-use Rattle.pieces.specs.Pieces.{Ran, bySaid, readOn, enough}
+use Rattle.pieces.specs.Pieces.{Ran, bySaid, readOn, enough, mostRead}
 
 -- "Every skipped packet is counted under exactly one reason": a packet's outcome is one of six numbers, and it is counted under that one
 pub record OneReason (ethernet : Bool) (packet : List ℕ) : Type 0 where
@@ -106,3 +108,39 @@ goesOn (Refused n) = false
 pub record MovesOn (f : List ℕ) (at : ℕ) (t : Tally) : Type 0 where
   pub falls : goesOn ((stepAt f at t) .said) ≡ true → callsAhead f ((stepAt f at t) .at) ((stepAt f at t) .tally) < callsAhead f at t
   pub ends : (n m k : ℕ) → callsAhead f at t < n → callsAhead f at t < m → readOn n k f at t ≡ readOn m k f at t
+
+-- "what was emitted before 22 stands": whatever bytes come behind a capture's, its packets, events and sums stay, and the rest is that of the
+-- same header with the unread bytes and those behind. So do the refusal, and its place, by so many bytes as were read
+abbrev pub carriedOn : List ℕ → List ℕ → List ℕ
+carriedOn f more = take headerBytes f ++ (drop (refusedAt f) f ++ more)
+
+pub record Stands (f more : List ℕ) : Type 0 where
+  pub packets-go-on : packetsIn (f ++ more) ≡ packetsIn f ++ packetsIn (carriedOn f more)
+  pub events-go-on : eventsIn (f ++ more) ≡ eventsIn f ++ eventsIn (carriedOn f more)
+  pub reads-go-on : readIn (f ++ more) ≡ readIn f + readIn (carriedOn f more)
+  pub sums-go-on : (why : ℕ) → countedIn why (f ++ more) ≡ countedIn why f + countedIn why (carriedOn f more)
+  pub refusal-goes-on : refusalIn (f ++ more) ≡ refusalIn (carriedOn f more)
+  pub place-goes-on : refusedAt (f ++ more) ≡ (refusedAt f - headerBytes) + refusedAt (carriedOn f more)
+
+abbrev pub BeforeStands : Type 0
+BeforeStands = (f more : List ℕ) → headerRefusal f ≡ 0 → Stands f more
+
+-- "a packet longer than a buffer is read by its first bytes": a packet's outcome goes by its first 88 bytes. Any numbers, bytes or not
+abbrev pub FirstBytes : Type 0
+FirstBytes = (ethernet : Bool) (packet : List ℕ) → outcome ethernet (take mostRead packet) ≡ outcome ethernet packet
+
+-- "turned into event records": each event of a capture is a record of 16 bytes that reads, without a refusal, as a packet or an end of its key
+pub record IsEvent (e : List ℕ) : Type 0 where
+  pub kind : ℕ
+  pub key : List ℕ
+  pub of-kind : (kind ≡ packetKind) ⊎ (kind ≡ endKind)
+  pub key-sized : length key ≡ 13
+  pub sized : length e ≡ eventBytes
+  pub reads : eventIn e ≡ asksKey kind key
+
+abbrev pub Every : (List ℕ → Type 0) → List (List ℕ) → Type 0
+Every P [] = Unit {0}
+Every P (e ∷ es) = P e × Every P es
+
+abbrev pub EventsRead : Type 0
+EventsRead = (f : List ℕ) → Every IsEvent (eventsIn f)

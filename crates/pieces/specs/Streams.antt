@@ -84,7 +84,8 @@ taken b out s got =
     (passedBy b out s got))
     (takenIn b out s)
 
--- the capture's refusal once all has come, 0 where there is none: 22 where a packet isn't all there, else what the window's first record says
+-- the capture's refusal once all has come, 0 where there is none: what the window's header or first record says; else 22 where a packet is passed
+-- over and isn't all there
 abbrev pub lastSaid : Said → ℕ
 lastSaid Event = 0
 lastSaid (Skipped why) = 0
@@ -92,7 +93,9 @@ lastSaid Finished = 0
 lastSaid (Refused n) = n
 
 abbrev pub lastRefusal : List ℕ → Stream → ℕ
-lastRefusal b s = cond (eqb (s .pass) 0) (lastSaid ((stepAt (take (s .have) b) headerBytes (s .tally)) .said)) shortRecord
+lastRefusal b s =
+    let n = lastSaid ((stepAt (take (s .have) b) headerBytes (s .tally)) .said) in
+    cond (eqb n 0) (cond (eqb (s .pass) 0) 0 shortRecord) n
 
 -- the byte where the refusal stands
 unfoldable pub ending : List ℕ → Stream → Ending

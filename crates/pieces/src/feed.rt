@@ -133,17 +133,21 @@ fn records_before(at: usize) -> u64
     (at - HEADER_BYTES) as u64
 }
 
-// What a capture that has ended is refused by: a packet that isn't all there, or what stands first in the window.
+// What a capture that has ended is refused by: what stands first in the window, or a packet that isn't all there.
 pub fn end(buffer: &[u8], stream: Stream) -> Ending
     ensures { λ r. ⌜ r ≡ ending (now (buffer .entry)) stream ⌝ }
 {
-    if stream.pass != 0 {
-        return refused(22, stream.before);
-    }
     let have = lower(stream.have, buffer.len());
     let last = pcap::read_on(&buffer[..have], HEADER_BYTES, stream.tally);
     let said = last.said;
-    refused(number(said), stream.before)
+    let refusal = number(said);
+    if refusal != 0 {
+        return refused(refusal, stream.before);
+    }
+    if stream.pass != 0 {
+        return refused(22, stream.before);
+    }
+    refused(0, stream.before)
 }
 
 // A refusal, and where it stands.

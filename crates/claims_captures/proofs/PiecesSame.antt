@@ -1,0 +1,219 @@
+-- A stream gives, at every moment, what is defined from the bytes that have come.
+use Prim.Native.Nat.{ℕ, zero, suc, _+_, _-_, _<_, _≤_, _%_, _^_}
+use mathlib.Core.Bool.{Bool, true, false, cond}
+use mathlib.Core.List.{List, [], _∷_, _++_, map, append-nil}
+use mathlib.Core.Path.{_≡_, refl, sym, ap, _∙_}
+use native.Mathlib.Omega.{arith}
+use lib.Dec.{eqb, leb, ltb}
+use lib.ListN.{length, take, drop, length-drop}
+use lib.Seq.{length-take-le}
+use borrow.Author.Tests.{eq-eqb, ne-eqb, eqb-true, eqb-false, ltb-true, ltb-false, leb-true, leb-false}
+use Rattle.sets.proofs.Cases.{both, clash}
+use Rattle.frames.specs.declared.Outcome.{Outcome}
+use Rattle.frames.specs.Frames.{outcome, emitted}
+use Rattle.pcap.specs.declared.Tally.{Tally}
+use Rattle.pcap.specs.Captures.{lowFirst, highFirst, ethernet, headerRefusal, headerBytes, recordSize, whole, packet, packetsIn, outcomesIn, refusalIn, refusedAt, shortRecord, allEvents}
+use Rattle.pcap.specs.Reading.{stepAt, meets}
+use Rattle.pieces.specs.declared.Stream.{Stream}
+use Rattle.pieces.specs.Pieces.{joined}
+use Rattle.pieces.specs.Streams.{lastSaid, lastRefusal, ending}
+use Rattle.pieces.proofs.Turns.{whole-size}
+use Rattle.claims_captures.specs.Captured.{sumsOf}
+use Rattle.claims_captures.specs.Fed.{Fed, SameAs, PiecesSame}
+use Rattle.claims_captures.proofs.Records.{leftOf, few-whole, size-whole, packets-first, packets-none, left-all}
+use Rattle.claims_captures.proofs.Files.{SameHeader, low-same, refusal-same, sound-long, packets-behind, refusal-left, refused-left, packets-bad, refusal-bad, refused-bad}
+use Rattle.claims_captures.proofs.Sums.{counting, counting-sums}
+use Rattle.claims_captures.proofs.ReadAll.{step-bad, step-end, step-short, step-packet}
+use Rattle.claims_captures.proofs.Windows.{cutWindow, cut-header, cut-length, cut-captured, firstSize}
+use Rattle.claims_captures.proofs.Carries.{header-now, all-now, refused-now, place-now}
+use Rattle.claims_captures.proofs.Streams.{Plain, Long, Bad, Held, plain, long, bad, Along, along}
+
+-- ---- the refusal of bytes without a whole record
+
+-- a sound header, and no whole record behind it
+module _ (q : List ℕ) (sound : eqb (headerRefusal q) 0 ≡ true) (w : whole (lowFirst q) (drop headerBytes q) ≡ false) where
+  left-is : leftOf (lowFirst q) (drop headerBytes q) ≡ drop headerBytes q
+  left-is = left-all (lowFirst q) (drop headerBytes q) w
+
+  refused-first : refusedAt q ≡ headerBytes
+  refused-first =
+      refused-left q sound
+      ∙ ap (λ (l : List ℕ). length q - length l) left-is
+      ∙ omega (arith, length-drop headerBytes q, sound-long q sound)
+
+  refusal-first : refusalIn q ≡ cond (eqb (length q - headerBytes) 0) 0 shortRecord
+  refusal-first =
+      refusal-left q sound ∙ ap (λ (l : List ℕ). cond (eqb (length l) 0) 0 shortRecord) left-is ∙ rw (length-drop headerBytes q)
+
+  says-first : (t : Tally) → lastSaid ((stepAt q headerBytes t) .said) ≡ refusalIn q
+  says-first t =
+      both (ltb headerBytes (length q)) (λ m.
+      let more = ltb-true headerBytes (length q) m in
+      rw (step-short q headerBytes t sound more w, refusal-first, ne-eqb (length q - headerBytes) 0 (λ e. omega arith))) (λ m.
+      let over = ltb-false headerBytes (length q) m in
+      rw (step-end q headerBytes t sound over, refusal-first, eq-eqb (length q - headerBytes) 0 (omega arith)))
+
+no-whole : (q : List ℕ) → eqb (headerRefusal q) 0 ≡ true → packetsIn q ≡ [] → whole (lowFirst q) (drop headerBytes q) ≡ false
+no-whole q sound none =
+    both (whole (lowFirst q) (drop headerBytes q)) (λ w.
+    let some = ap length (sym none ∙ packets-behind q sound ∙ packets-first (lowFirst q) (drop headerBytes q) w) in absurd (omega arith)) (λ w. w)
+
+-- a refused header
+says-bad : (q : List ℕ) (t : Tally) → eqb (headerRefusal q) 0 ≡ false → lastSaid ((stepAt q headerBytes t) .said) ≡ headerRefusal q
+says-bad q t refused = rw (step-bad q headerBytes t refused)
+
+header-other-number : (q : List ℕ) → headerRefusal q ≡ shortRecord → ⊥
+unfolding headerRefusal
+header-other-number q e =
+    both (ltb (length q) 4) (λ a. let z = rw a at e in absurd (omega arith)) (λ a.
+    both (cond (lowFirst q) true (highFirst q)) (λ m.
+    both (ltb (length q) headerBytes) (λ n. let z = rw (a, m, n) at e in absurd (omega arith)) (λ n. let z = rw (a, m, n) at e in absurd (omega arith)))
+    (λ m. let z = rw (a, m) at e in absurd (omega arith)))
+
+short-sound : (q : List ℕ) → refusalIn q ≡ shortRecord → eqb (headerRefusal q) 0 ≡ true
+short-sound q e =
+    both (eqb (headerRefusal q) 0) (λ sound. sound) (λ refused. absurd (header-other-number q (sym (refusal-bad q refused) ∙ e)))
+
+-- a packet is no refusal
+says-packet : (o : Outcome) (at next : ℕ) (t : Tally) → lastSaid ((meets o at next t) .said) ≡ 0
+unfolding meets
+says-packet o at next t =
+    both (eqb (o .reason) emitted) (λ e. rw e
+    (both (o .fin) (λ fin. rw fin (both (t .due) (λ due. rw due) (λ due. rw due))) (λ fin. rw fin)))
+    (λ e. rw e)
+
+-- ---- where a refusal stands
+
+-- only 22 stands behind the first byte
+elsewhere : (f : List ℕ) → (refusalIn f ≡ shortRecord → ⊥) → (refusalIn f ≡ 0 → ⊥) → refusedAt f ≡ 0
+elsewhere f other some =
+    both (eqb (headerRefusal f) 0) (λ sound.
+    both (eqb (length (leftOf (lowFirst f) (drop headerBytes f))) 0) (λ z. absurd (some (refusal-left f sound ∙ rw z)))
+    (λ z. absurd (other (refusal-left f sound ∙ rw z)))) (λ refused. refused-bad f refused)
+
+ends-at : (b : List ℕ) (s : Stream) (f : List ℕ) → lastRefusal b s ≡ refusalIn f
+    → (refusalIn f ≡ shortRecord → (s .before + headerBytes) % 2 ^ 64 ≡ refusedAt f % 2 ^ 64)
+    → (ending b s) .at ≡ cond (eqb (refusalIn f) 0) 0 (refusedAt f % 2 ^ 64)
+unfolding ending
+ends-at b s f same place =
+    rw same
+    (both (eqb (refusalIn f) shortRecord) (λ e.
+    let short = eqb-true (refusalIn f) shortRecord e in rw short (place short)) (λ e.
+    rw e
+    (both (eqb (refusalIn f) 0) (λ z. rw z) (λ z.
+    rw (z, elsewhere f (eqb-false (refusalIn f) shortRecord e) (eqb-false (refusalIn f) 0 z))))))
+
+ends-by : (b : List ℕ) (s : Stream) → (ending b s) .refusal ≡ lastRefusal b s
+unfolding ending
+ends-by b s = refl
+
+-- ---- the stream's own answer, by what the buffer holds
+
+abbrev says : List ℕ → Stream → ℕ
+says b s = lastSaid ((stepAt (take (s .have) b) headerBytes (s .tally)) .said)
+
+-- no packet is passed over
+last-plain : (b : List ℕ) (s : Stream) → s .pass ≡ 0 → lastRefusal b s ≡ says b s
+last-plain b s none = both (eqb (says b s) 0) (λ z. rw (z, none, eqb-true (says b s) 0 z)) (λ z. rw z)
+
+refusal-plain : (L : ℕ) (q : List ℕ) (before : ℕ) (b : List ℕ) (s : Stream) → Plain L q before b s → lastRefusal b s ≡ refusalIn q
+refusal-plain L q before b s h =
+    last-plain b s (h .no-pass)
+    ∙ ap (λ (w : List ℕ). lastSaid ((stepAt w headerBytes (s .tally)) .said)) (h .window)
+    ∙ both (eqb (headerRefusal q) 0) (λ sound. says-first q sound (no-whole q sound (h .none-whole)) (s .tally))
+    (λ refused. says-bad q (s .tally) refused ∙ sym (refusal-bad q refused))
+
+refusal-bad-header : (L : ℕ) (q b : List ℕ) (s : Stream) → Bad L q b s → lastRefusal b s ≡ refusalIn q
+refusal-bad-header L q b s h =
+    let same = refusal-same (h .header) in
+    let e : says b s ≡ headerRefusal q = says-bad (take (s .have) b) (s .tally) (ap (λ (n : ℕ). eqb n 0) same ∙ h .bad) ∙ same in
+    rw (e, h .bad) (sym (refusal-bad q (h .bad)))
+
+-- the first record of a long packet's bytes isn't whole; that of the window is
+module _ (L : ℕ) (q : List ℕ) (before : ℕ) (b : List ℕ) (s : Stream) (h : Long L q before b s) where
+  long-whole : whole (lowFirst q) (drop headerBytes q) ≡ false
+  long-whole =
+      both (whole (lowFirst q) (drop headerBytes q)) (λ w.
+      absurd (omega (arith, whole-size (lowFirst q) (drop headerBytes q) w, length-drop headerBytes q, h .pass-is, h .passes, h .many))) (λ w. w)
+
+  cut-size : recordSize (lowFirst (cutWindow q)) (drop headerBytes (cutWindow q)) ≡ 104
+  cut-size =
+      ap (λ (low : Bool). recordSize low (drop headerBytes (cutWindow q))) (low-same (cut-header q (h .many)))
+      ∙ ap (λ (n : ℕ). 16 + n) (cut-captured q (h .many))
+
+  cut-whole : whole (lowFirst (cutWindow q)) (drop headerBytes (cutWindow q)) ≡ true
+  cut-whole =
+      size-whole (lowFirst (cutWindow q)) (drop headerBytes (cutWindow q))
+      (rw (length-drop headerBytes (cutWindow q), cut-length q (h .many)) (omega (arith, cut-size)))
+
+  says-long : says b s ≡ 0
+  says-long =
+      ap (λ (n : ℕ). lastSaid ((stepAt (take n b) headerBytes (s .tally)) .said)) (h .have-is)
+      ∙ ap (λ (w : List ℕ). lastSaid ((stepAt w headerBytes (s .tally)) .said)) (h .window)
+      ∙ rw
+      (step-packet (cutWindow q) headerBytes (s .tally) (ap (λ (n : ℕ). eqb n 0) (refusal-same (cut-header q (h .many))) ∙ h .sound)
+      (omega (arith, cut-length q (h .many))) cut-whole)
+      (says-packet _ _ _ (s .tally))
+
+  refusal-long : lastRefusal b s ≡ refusalIn q
+  refusal-long =
+      rw
+      (says-long, ne-eqb (s .pass) 0 (λ e. omega (arith, h .passes)), refusal-first q (h .sound) long-whole, ne-eqb (length q - headerBytes) 0 (λ e. omega (arith, h .many)))
+
+refusal-held : (L : ℕ) (q : List ℕ) (before : ℕ) (b : List ℕ) (s : Stream) → Held L q before b s → lastRefusal b s ≡ refusalIn q
+refusal-held L q before b s (plain h) = refusal-plain L q before b s h
+refusal-held L q before b s (long h) = refusal-long L q before b s h
+refusal-held L q before b s (bad h) = refusal-bad-header L q b s h
+
+-- a sound header: where the first record stands, and that it isn't whole
+place-held : (L : ℕ) (q : List ℕ) (before : ℕ) (b : List ℕ) (s : Stream) → Held L q before b s → eqb (headerRefusal q) 0 ≡ true
+    → (s .before + headerBytes) % 2 ^ 64 ≡ (before + refusedAt q) % 2 ^ 64
+place-held L q before b s (plain h) sound =
+    rw (refused-first q sound (no-whole q sound (h .none-whole))) (omega (arith, h .before-is))
+place-held L q before b s (long h) sound = rw (refused-first q sound (long-whole L q before b s h)) (omega (arith, h .before-is))
+place-held L q before b s (bad h) sound = clash sound (h .bad)
+
+-- no packets are left to come of the bytes themselves
+none-held : (L : ℕ) (q : List ℕ) (before : ℕ) (b : List ℕ) (s : Stream) → Held L q before b s → packetsIn q ≡ []
+none-held L q before b s (plain h) = h .none-whole
+none-held L q before b s (long h) = packets-behind q (h .sound) ∙ packets-none (lowFirst q) (drop headerBytes q) (long-whole L q before b s h)
+none-held L q before b s (bad h) = packets-bad q (h .bad)
+
+-- there is room for the next piece
+short-size : (low : Bool) (bytes : List ℕ) → whole low bytes ≡ false → length bytes < recordSize low bytes
+short-size low bytes w =
+    both (leb (recordSize low bytes) (length bytes)) (λ e. clash (size-whole low bytes (leb-true (recordSize low bytes) (length bytes) e)) w)
+    (λ e. leb-false (recordSize low bytes) (length bytes) e)
+
+room-held : (L : ℕ) (q : List ℕ) (before : ℕ) (b : List ℕ) (s : Stream) → Held L q before b s → eqb (headerRefusal q) 0 ≡ true → 128 < L → s .have < L
+room-held L q before b s (plain h) sound more =
+    let n : length q ≡ s .have = ap length (sym (h .window)) ∙ length-take-le (s .have) b (omega (arith, h .size, h .within)) in
+    both (ltb (length q) 128) (λ few. omega (arith, ltb-true (length q) 128 few)) (λ few.
+    omega (arith, h .has-room (ltb-false (length q) 128 few), short-size (lowFirst q) (drop headerBytes q) (no-whole q sound (h .none-whole)), length-drop headerBytes q))
+room-held L q before b s (long h) sound more = omega (arith, h .have-is)
+room-held L q before b s (bad h) sound more = clash sound (h .bad)
+
+-- ---- the theorem
+
+same-as : (L : ℕ) (come given b : List ℕ) (s : Stream) → Along L come given b s → SameAs L come given b s
+same-as L come given b s h =
+    let none = none-held L (h .q) (h .before) b s (h .held) in
+    let outcomes : outcomesIn come ≡ h .done =
+    all-now (h .carries)
+    ∙ ap (λ (ps : List (List ℕ)). h .done ++ map (outcome (ethernet (h .q))) ps) none
+    ∙ append-nil (h .done) in
+    let refusal : lastRefusal b s ≡ refusalIn come = refusal-held L (h .q) (h .before) b s (h .held) ∙ sym (refused-now (h .carries)) in
+    record {
+      events-same = h .given-are ∙ ap (λ (os : List Outcome). joined (allEvents os)) (sym outcomes);
+      sums-same = h .tally-is ∙ counting-sums (h .done) ∙ ap sumsOf (sym outcomes);
+      refusal-same = ends-by b s ∙ refusal;
+      place-same =
+          ends-at b s come refusal (λ e.
+          let sound = short-sound (h .q) (sym (refused-now (h .carries)) ∙ e) in
+          place-held L (h .q) (h .before) b s (h .held) sound ∙ ap (λ (n : ℕ). n % 2 ^ 64) (sym (place-now (h .carries) sound)));
+      room-left = λ e more.
+          room-held L (h .q) (h .before) b s (h .held) (eq-eqb (headerRefusal (h .q)) 0 (sym (header-now (h .carries)) ∙ e)) more;
+    }
+
+pub pieces-same : PiecesSame
+pieces-same L come given b s big fed = same-as L come given b s (along L big fed)
