@@ -11,7 +11,7 @@ Input: for each capture its length in 4 bytes, the highest first, and its bytes.
     pieces B ways W                for every buffer length B: handed over in W ways in pieces, and each came to what the whole does
 
 NUMBERS: packets read, packets emitted, skipped by each of the five reasons, the refusal, its byte, the digest of the event bytes.
-The digest of bytes is FNV-1a 64; that of a changed byte is the same step over the numbers of every change in turn, where the byte
+The digest of bytes is FNV-1a 32; that of a changed byte is the same step over the numbers of every change in turn, where the byte
 becomes itself xor 1, xor 2, .. xor 255. The ways: pieces of each constant length from 1 to the capture's; and, for a capture of at most
 TWO_CUTS bytes, two cuts at each pair of places a <= b from 0 to its length.
 """
@@ -21,9 +21,9 @@ import sys
 import capture
 
 CAPTURES = os.path.join(os.path.dirname(os.path.dirname(os.path.abspath(__file__))), "captures")
-BUFFERS = (128, 129, 150, 200, 400, 1000, 2048)
-TWO_CUTS = 400
-OFFSET, PRIME, BELOW = 14695981039346656037, 1099511628211, 2**64 - 1
+BUFFERS = (129, 150, 400)
+TWO_CUTS = 170
+OFFSET, PRIME, BELOW = 2166136261, 16777619, 2**32 - 1
 FIN, SYN, ACK = 1, 2, 16
 TCP, UDP = 6, 17
 
@@ -106,7 +106,7 @@ def captures():
 # What has to be printed.
 
 def step(digest, number):
-    """FNV-1a 64, of a byte or of any number below 2^64."""
+    """FNV-1a 32, of a byte or of any number below 2^32."""
     return ((digest ^ number) * PRIME) & BELOW
 
 
@@ -114,7 +114,7 @@ known = {}
 
 
 def digest_of(events):
-    """FNV-1a 64 over all event bytes."""
+    """FNV-1a 32 over all event bytes."""
     whole = b"".join(events)
     if whole not in known:
         digest = OFFSET
