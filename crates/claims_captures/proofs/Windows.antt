@@ -7,9 +7,10 @@ use mathlib.Core.Path.{_≡_, refl, sym, ap, _∙_}
 use native.Mathlib.Omega.{arith}
 use lib.Dec.{ltb}
 use lib.ListN.{length, getD, take, drop, replicate, length-append, length-take, length-drop, length-replicate, List·getD-append}
-use lib.Seq.{length-take-le, take-take, take-at, drop-drop, take-append-le, drop-append-le, take-append-add, drop-append-add, getD-append-add, getD-take, getD-drop}
+use lib.Seq.{length-take-le, take-take, take-at, drop-drop, take-append-le, drop-append-le, take-append-add, drop-append-add, getD-append-add, getD-take, getD-drop, drop-at, take-add}
 use borrow.Author.Tests.{ltb-true, ltb-false, le-leb, le-ltb}
 use Rattle.sets.proofs.Cases.{both, clash}
+use Rattle.spans.specs.Spans.{closed}
 use Rattle.pcap.specs.Captures.{lowFirst, captured, recordSize, recordBytes, headerBytes}
 use Rattle.pieces.specs.declared.Kept.{Kept}
 use Rattle.pieces.specs.Pieces.{mostRead, mostReadBytes, carried, tooLong, trimmed, inOrder, keptAll, keptFirst, settledBuffer, settledKept}
@@ -39,13 +40,21 @@ module _ (b : List ℕ) (n at : ℕ) (low : headerBytes ≤ at) (mid : at ≤ n)
       length-append (take headerBytes (take n b)) (drop at (take n b))
       ∙ omega (arith, length-take-le headerBytes (take n b) (rw window-length (omega arith)), length-drop at (take n b), window-length)
 
+  -- the records of the window
+  records-are : take (n - headerBytes) (drop headerBytes b) ≡ drop headerBytes (take n b)
+  records-are =
+      let far : headerBytes + (n - headerBytes) ≡ n = omega arith in
+      sym (drop-at (take headerBytes b) (take (n - headerBytes) (drop headerBytes b)) headerBytes (length-take-le headerBytes b (omega arith)))
+      ∙ ap (drop headerBytes) (sym (take-add headerBytes (n - headerBytes) b) ∙ ap (λ (k : ℕ). take k b) far)
+
   -- the buffer begins with what is kept
   carried-is : carried b n at ≡ keptFrom (take n b) at ++ spare b n at
   carried-is =
       let w = take n b in
       let z : List ℕ = replicate (min (at - headerBytes) (length (drop headerBytes w))) 0 in
       let place : headerBytes + (at - headerBytes) ≡ at = omega arith in
-      ap (λ (l : List ℕ). take headerBytes b ++ ((l ++ z) ++ drop n b)) (drop-drop (at - headerBytes) headerBytes w ∙ ap (λ (k : ℕ). drop k w) place)
+      ap (λ (l : List ℕ). take headerBytes b ++ (closed (at - headerBytes) l ++ drop n b)) records-are
+      ∙ ap (λ (l : List ℕ). take headerBytes b ++ ((l ++ z) ++ drop n b)) (drop-drop (at - headerBytes) headerBytes w ∙ ap (λ (k : ℕ). drop k w) place)
       ∙ regroup (take headerBytes b) (drop at w) z (drop n b)
       ∙ ap (λ (l : List ℕ). (l ++ drop at w) ++ (z ++ drop n b)) (sym (take-take headerBytes n b (omega arith)))
 
