@@ -1,21 +1,23 @@
 -- A capture of which some bytes have come, and shorter bytes that stand for them: whatever comes, the outcomes are those of the packets that are
 -- done and then those of the shorter bytes; the refusal is the same, and its place differs by the bytes that are done.
-use Prim.Native.Nat.{ℕ, zero, suc, _+_, _-_, _<_, _≤_}
-use mathlib.Core.Bool.{Bool, true, false}
-use mathlib.Core.List.{List, [], _∷_, _++_, map, append-assoc, append-nil}
+use Prim.Native.Nat.{ℕ, _+_, _-_, _≤_}
+use mathlib.Core.Bool.{true}
+use mathlib.Core.List.{List, [], _∷_, _++_, append-assoc, append-nil}
 use mathlib.Core.Path.{_≡_, refl, sym, ap, _∙_}
 use native.Mathlib.Omega.{arith}
 use lib.Dec.{eqb}
-use lib.ListN.{length, take, drop}
+use lib.ListN.{length, take, drop, length-append, length-drop}
+use lib.Seq.{length-take-le}
 use borrow.Author.Tests.{eqb-true}
 use Rattle.frames.specs.declared.Outcome.{Outcome}
 use Rattle.pcap.specs.Captures.{headerRefusal, headerBytes, packetsIn, outcomesIn, refusalIn, refusedAt, readIn}
 use Rattle.claims_captures.specs.Captured.{carriedOn}
-use Rattle.claims_captures.proofs.Files.{SameHeader, refusal-same}
+use Rattle.claims_captures.proofs.Files.{refusal-same, sound-long, refused-behind, refused-within}
 use Rattle.claims_captures.proofs.Stands.{before-stands, outcomes-on, carried, longer}
 use Rattle.claims_captures.proofs.Windows.{keptFrom}
 
 pub record Carries (come q : List ℕ) (done : List Outcome) (before : ℕ) : Type 0 where
+  pub shorter : length q ≤ length come
   pub header-on : (g : List ℕ) → headerRefusal (come ++ g) ≡ headerRefusal (q ++ g)
   pub all-on : (g : List ℕ) → outcomesIn (come ++ g) ≡ done ++ outcomesIn (q ++ g)
   pub refused-on : (g : List ℕ) → refusalIn (come ++ g) ≡ refusalIn (q ++ g)
@@ -23,7 +25,7 @@ pub record Carries (come q : List ℕ) (done : List Outcome) (before : ℕ) : Ty
 
 -- bytes stand for themselves
 pub carries-none : (q : List ℕ) → Carries q q [] 0
-carries-none q = record { header-on = λ g. refl; all-on = λ g. refl; refused-on = λ g. refl; place-on = λ g _. omega arith }
+carries-none q = record { shorter = omega arith; header-on = λ g. refl; all-on = λ g. refl; refused-on = λ g. refl; place-on = λ g _. omega arith }
 
 -- where nothing more comes
 module _ {come q : List ℕ} {done : List Outcome} {before : ℕ} (c : Carries come q done before) where
@@ -44,6 +46,7 @@ pub carries-piece : {come q : List ℕ} {done : List Outcome} {before : ℕ} (p 
     → Carries (come ++ p) (q ++ p) done before
 carries-piece {come} {q} {done} {before} p c =
     record {
+      shorter = rw (length-append come p, length-append q p) (omega (arith, c .shorter));
       header-on = λ g. rw (append-assoc come p g, append-assoc q p g) (c .header-on (p ++ g));
       all-on = λ g. rw (append-assoc come p g, append-assoc q p g) (c .all-on (p ++ g));
       refused-on = λ g. rw (append-assoc come p g, append-assoc q p g) (c .refused-on (p ++ g));
@@ -62,6 +65,9 @@ carries-read {come} {q} {done} {before} sound c =
     let header : (g : List ℕ) → headerRefusal (q ++ g) ≡ headerRefusal (keptFrom q (refusedAt q) ++ g) =
     λ g. refusal-same (longer q g sound) ∙ sym (refusal-same (carried q g sound)) ∙ ap headerRefusal (kept-on q g) in
     record {
+      shorter =
+          rw (length-append (take headerBytes q) (drop (refusedAt q) q), length-take-le headerBytes q (sound-long q sound), length-drop (refusedAt q) q)
+          (omega (arith, c .shorter, refused-behind q sound, refused-within q sound));
       header-on = λ g. c .header-on g ∙ header g;
       all-on = λ g.
           c .all-on g

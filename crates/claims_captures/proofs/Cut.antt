@@ -1,8 +1,8 @@
 -- A capture of one packet record, and the same cut to the record's first 104 bytes: one packet each, with the same outcome, and nothing left.
-use Prim.Native.Nat.{ℕ, zero, suc, _+_, _-_, _<_, _≤_}
-use mathlib.Core.Bool.{Bool, true, false}
+use Prim.Native.Nat.{ℕ, _+_, _-_, _≤_}
+use mathlib.Core.Bool.{Bool, true}
 use mathlib.Core.List.{List, [], _∷_, _++_, map}
-use mathlib.Core.Path.{_≡_, refl, sym, ap, _∙_}
+use mathlib.Core.Path.{_≡_, sym, ap, _∙_}
 use native.Mathlib.Omega.{arith}
 use lib.Dec.{eqb}
 use lib.ListN.{length, take, drop, length-drop, drop-of-length-le}
@@ -12,7 +12,7 @@ use Rattle.frames.specs.Frames.{outcome}
 use Rattle.pcap.specs.Captures.{lowFirst, ethernet, headerRefusal, headerBytes, recordBytes, recordSize, captured, packet, packetsIn, outcomesIn, refusedAt}
 use Rattle.pieces.specs.Pieces.{mostRead}
 use Rattle.claims_captures.proofs.Records.{packetsOf, leftOf, size-whole, few-whole, packets-first, left-first, packets-none, left-all}
-use Rattle.claims_captures.proofs.Files.{SameHeader, low-same, ethernet-same, refusal-same, packets-behind, refused-left}
+use Rattle.claims_captures.proofs.Files.{low-same, ethernet-same, refusal-same, packets-behind, refused-left}
 use Rattle.claims_captures.proofs.First.{first-88}
 use Rattle.claims_captures.proofs.Windows.{cutWindow, cut-length, cut-header, cut-captured, cut-bytes, firstSize, keptFrom}
 

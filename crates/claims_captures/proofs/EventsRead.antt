@@ -1,10 +1,9 @@
 -- Each event of a capture is an event record that the balancer reads as a packet or an end of its key.
 use Prim.Native.Nat.{ℕ}
-use mathlib.Core.Bool.{Bool, true, false}
+use mathlib.Core.Bool.{Bool}
 use mathlib.Core.List.{List, [], _∷_, _++_, map}
 use mathlib.Core.Logic.{inl, inr}
-use mathlib.Core.Path.{_≡_, refl, ap}
-use native.Mathlib.Omega.{arith}
+use mathlib.Core.Path.{_≡_, refl}
 use lib.Dec.{eqb}
 use lib.ListN.{length}
 use Rattle.sets.proofs.Cases.{both}

@@ -1,17 +1,16 @@
 -- A file with a sound header: its packets and its unread bytes are those of the bytes behind the header.
-use Prim.Native.Nat.{ℕ, zero, suc, _+_, _-_, _<_, _≤_}
-use mathlib.Core.Bool.{Bool, true, false, cond}
-use mathlib.Core.List.{List, [], _∷_, _++_, map}
-use mathlib.Core.Path.{_≡_, refl, sym, ap, _∙_}
+use Prim.Native.Nat.{ℕ, _+_, _-_, _<_, _≤_}
+use mathlib.Core.Bool.{true, false, cond}
+use mathlib.Core.List.{List, [], _++_}
+use mathlib.Core.Path.{_≡_, refl, ap, _∙_}
 use native.Mathlib.Omega.{arith}
 use lib.Dec.{eqb, ltb}
 use lib.ListN.{length, getD, take, drop, length-drop, length-append, List·getD-append}
-use lib.Seq.{length-take-le, getD-take, drop-at, drop-drop, drop-append-le}
+use lib.Seq.{length-take-le, getD-take, drop-at, drop-drop}
 use Rattle.bigendian.specs.BigEndian.{number4At}
-use borrow.Author.Tests.{ltb-false, le-ltb, eqb-true, eqb-false, eq-eqb}
+use borrow.Author.Tests.{ltb-false, le-ltb}
 use Rattle.sets.proofs.Cases.{both, clash}
-use Rattle.frames.specs.Frames.{outcome}
-use Rattle.pcap.specs.Captures.{lowFirst, highFirst, ethernet, headerRefusal, headerBytes, packetsIn, outcomesIn, unreadIn, refusalIn, refusedAt, shortRecord, badMagic, shortHeader}
+use Rattle.pcap.specs.Captures.{lowFirst, highFirst, ethernet, headerRefusal, headerBytes, packetsIn, unreadIn, refusalIn, refusedAt, shortRecord}
 use Rattle.claims_captures.proofs.Records.{packetsOf, leftOf, packets-end, unread-end, Last, left-last}
 
 -- a sound header is all there

@@ -1,17 +1,16 @@
 -- A packet's outcome goes by its first 88 bytes: 14 of Ethernet, at most 60 of IPv4, 14 up to TCP's flags. Any numbers will do for bytes: a header
 -- length is a remainder by 16.
-use Prim.Native.Nat.{ℕ, zero, suc, _+_, _*_, _<_, _≤_, _%_}
-use mathlib.Core.Bool.{Bool, true, false, cond}
-use mathlib.Core.List.{List, [], _∷_, _++_}
-use mathlib.Core.Path.{_≡_, refl, sym, ap, _∙_}
-use native.Mathlib.Nat.{not-suc-le-zero, le-of-suc-le-suc, suc-add}
+use Prim.Native.Nat.{ℕ, zero, suc, _+_, _<_, _≤_}
+use mathlib.Core.Bool.{true, false}
+use mathlib.Core.List.{List, [], _∷_}
+use mathlib.Core.Path.{_≡_, refl}
 use native.Mathlib.Omega.{arith}
 use lib.Dec.{ltb}
 use lib.ListN.{length, getD, take, drop, length-take}
 use lib.Seq.{getD-take, take-take}
 use borrow.Author.Tests.{ltb-true, ltb-false, lt-ltb, le-ltb}
 use Rattle.sets.proofs.Cases.{both}
-use Rattle.frames.specs.Frames.{outcome, ofEthernet, ofIPv4, portsAt, headerWords, keyIn, hasFIN}
+use Rattle.frames.specs.Frames.{outcome, ofEthernet, ofIPv4, portsAt, keyIn, hasFIN}
 use Rattle.pieces.specs.Pieces.{mostRead}
 use Rattle.claims_captures.specs.Captured.{FirstBytes}
 

@@ -1,30 +1,31 @@
 -- A stream gives, at every moment, what is defined from the bytes that have come.
-use Prim.Native.Nat.{ℕ, zero, suc, _+_, _-_, _<_, _≤_, _%_, _^_}
+use Prim.Native.Nat.{ℕ, suc, _+_, _*_, _-_, _<_, _≤_, _%_, _^_}
 use mathlib.Core.Bool.{Bool, true, false, cond}
-use mathlib.Core.List.{List, [], _∷_, _++_, map, append-nil}
+use mathlib.Core.List.{List, [], _∷_, _++_, map, append-nil, append-assoc}
+use mathlib.Core.Logic.{_⊎_, inl, inr}
 use mathlib.Core.Path.{_≡_, refl, sym, ap, _∙_}
 use native.Mathlib.Omega.{arith}
 use lib.Dec.{eqb, leb, ltb}
-use lib.ListN.{length, take, drop, length-drop}
-use lib.Seq.{length-take-le}
+use lib.ListN.{length, set, take, drop, replicate, length-set, length-drop, length-replicate}
+use lib.Seq.{length-take-le, take-suc-set}
 use borrow.Author.Tests.{eq-eqb, ne-eqb, eqb-true, eqb-false, ltb-true, ltb-false, leb-true, leb-false}
 use Rattle.sets.proofs.Cases.{both, clash}
 use Rattle.frames.specs.declared.Outcome.{Outcome}
 use Rattle.frames.specs.Frames.{outcome, emitted}
 use Rattle.pcap.specs.declared.Tally.{Tally}
-use Rattle.pcap.specs.Captures.{lowFirst, highFirst, ethernet, headerRefusal, headerBytes, recordSize, whole, packet, packetsIn, outcomesIn, refusalIn, refusedAt, shortRecord, allEvents}
+use Rattle.pcap.specs.Captures.{lowFirst, highFirst, ethernet, headerRefusal, headerBytes, recordSize, whole, packetsIn, outcomesIn, refusalIn, refusedAt, shortRecord, allEvents}
 use Rattle.pcap.specs.Reading.{stepAt, meets}
 use Rattle.pieces.specs.declared.Stream.{Stream}
 use Rattle.pieces.specs.Pieces.{joined}
-use Rattle.pieces.specs.Streams.{lastSaid, lastRefusal, ending}
+use Rattle.pieces.specs.Streams.{beginning, lastSaid, lastRefusal, ending}
 use Rattle.pieces.proofs.Turns.{whole-size}
 use Rattle.claims_captures.specs.Captured.{sumsOf}
-use Rattle.claims_captures.specs.Fed.{Fed, SameAs, PiecesSame}
-use Rattle.claims_captures.proofs.Records.{leftOf, few-whole, size-whole, packets-first, packets-none, left-all}
-use Rattle.claims_captures.proofs.Files.{SameHeader, low-same, refusal-same, sound-long, packets-behind, refusal-left, refused-left, packets-bad, refusal-bad, refused-bad}
-use Rattle.claims_captures.proofs.Sums.{counting, counting-sums}
+use Rattle.claims_captures.specs.Fed.{Arrives, Fed, begins, comes, SameAs, PiecesSame, Feeds, AnyLength}
+use Rattle.claims_captures.proofs.Records.{leftOf, size-whole, packets-first, packets-none, left-all}
+use Rattle.claims_captures.proofs.Files.{low-same, refusal-same, header-append, sound-long, packets-behind, refusal-left, refused-left, packets-bad, refusal-bad, refused-bad}
+use Rattle.claims_captures.proofs.Sums.{counting-sums}
 use Rattle.claims_captures.proofs.ReadAll.{step-bad, step-end, step-short, step-packet}
-use Rattle.claims_captures.proofs.Windows.{cutWindow, cut-header, cut-length, cut-captured, firstSize}
+use Rattle.claims_captures.proofs.Windows.{cutWindow, cut-header, cut-length, cut-captured}
 use Rattle.claims_captures.proofs.Carries.{header-now, all-now, refused-now, place-now}
 use Rattle.claims_captures.proofs.Streams.{Plain, Long, Bad, Held, plain, long, bad, Along, along}
 
@@ -193,7 +194,20 @@ room-held L q before b s (plain h) sound more =
 room-held L q before b s (long h) sound more = omega (arith, h .have-is)
 room-held L q before b s (bad h) sound more = clash sound (h .bad)
 
+-- fewer bytes than a header: they are all in the window
+few-held : (L : ℕ) (q : List ℕ) (before : ℕ) (b : List ℕ) (s : Stream) → Held L q before b s → length q < headerBytes → 128 < L → s .have < L
+few-held L q before b s (plain h) few more =
+    let n = length-take-le (s .have) b (omega (arith, h .size, h .within)) in omega (arith, ap length (h .window))
+few-held L q before b s (long h) few more = absurd (omega (arith, h .many))
+few-held L q before b s (bad h) few more = absurd (omega (arith, h .header .long′))
+
 -- ---- the theorem
+
+room-along : (L : ℕ) (come given b : List ℕ) (s : Stream) → Along L come given b s → (length come < headerBytes) ⊎ (headerRefusal come ≡ 0) → 128 < L
+    → s .have < L
+room-along L come given b s h (inl few) more = few-held L (h .q) (h .before) b s (h .held) (omega (arith, h .carries .shorter)) more
+room-along L come given b s h (inr e) more =
+    room-held L (h .q) (h .before) b s (h .held) (eq-eqb (headerRefusal (h .q)) 0 (sym (header-now (h .carries)) ∙ e)) more
 
 same-as : (L : ℕ) (come given b : List ℕ) (s : Stream) → Along L come given b s → SameAs L come given b s
 same-as L come given b s h =
@@ -211,9 +225,49 @@ same-as L come given b s h =
           ends-at b s come refusal (λ e.
           let sound = short-sound (h .q) (sym (refused-now (h .carries)) ∙ e) in
           place-held L (h .q) (h .before) b s (h .held) sound ∙ ap (λ (n : ℕ). n % 2 ^ 64) (sym (place-now (h .carries) sound)));
-      room-left = λ e more.
-          room-held L (h .q) (h .before) b s (h .held) (eq-eqb (headerRefusal (h .q)) 0 (sym (header-now (h .carries)) ∙ e)) more;
+      room-left = room-along L come given b s h;
     }
 
 pub pieces-same : PiecesSame
 pieces-same L come given b s big fed = same-as L come given b s (along L big fed)
+
+-- ---- any length
+
+size-held : (L : ℕ) (q : List ℕ) (before : ℕ) (b : List ℕ) (s : Stream) → Held L q before b s → length b ≡ L
+size-held L q before b s (plain h) = h .size
+size-held L q before b s (long h) = h .size
+size-held L q before b s (bad h) = h .size
+
+-- one byte more, behind the window
+arrives-one : (b : List ℕ) (s : Stream) (x : ℕ) → s .have < length b → Arrives b s (x ∷ []) (set b (s .have) x)
+arrives-one b s x room =
+    let one : s .have + 1 ≡ suc (s .have) = omega arith in
+    record {
+      length-stays = length-set b (s .have) x;
+      stands = ap (λ (n : ℕ). take n (set b (s .have) x)) one ∙ take-suc-set b (s .have) x room;
+      fits = omega arith;
+      no-further = λ some. omega arith;
+    }
+
+-- a sound header: what comes first is shorter than one, or begins with it
+first-sound : (come more : List ℕ) → headerRefusal (come ++ more) ≡ 0 → (length come < headerBytes) ⊎ (headerRefusal come ≡ 0)
+first-sound come more e =
+    both (ltb (length come) headerBytes) (λ few. inl (ltb-true (length come) headerBytes few)) (λ few.
+    inr (sym (refusal-same (header-append come more (ltb-false (length come) headerBytes few))) ∙ e))
+
+feeds-on : (L : ℕ) → 128 < L → (more come given b : List ℕ) (s : Stream) → Fed L come given b s → headerRefusal (come ++ more) ≡ 0
+    → Feeds L (come ++ more)
+feeds-on L big [] come given b s fed e = record { given = given; buffer = b; stream = s; fed = rw (append-nil come) fed }
+feeds-on L big (x ∷ more) come given b s fed e =
+    let h = along L (omega arith) fed in
+    let size = size-held L (h .q) (h .before) b s (h .held) in
+    let room = room-along L come given b s h (first-sound come (x ∷ more) e) big in
+    let out : List ℕ = replicate (2 * L) 0 in
+    let wide : 2 * L ≤ length out = rw (length-replicate {A = ℕ} (2 * L) 0) (omega arith) in
+    rw (append-assoc come (x ∷ []) more) at
+    (feeds-on L big more (come ++ (x ∷ [])) _ _ _ (comes fed (x ∷ []) (set b (s .have) x) out (arrives-one b s x (omega arith)) wide)
+    (rw (append-assoc come (x ∷ []) more) e))
+
+pub any-length : AnyLength
+any-length L f big e =
+    feeds-on L big f [] [] (replicate L 0) beginning (begins (replicate L 0) (length-replicate L 0)) e

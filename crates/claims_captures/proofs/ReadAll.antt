@@ -1,28 +1,26 @@
 -- The reader, called until there is no more, gives what is defined from the file.
 use Prim.Native.Nat.{ℕ, zero, suc, _+_, _-_, _<_, _≤_, _%_, _^_}
 use mathlib.Core.Bool.{Bool, true, false, cond}
-use mathlib.Core.List.{List, [], _∷_, _++_, map}
+use mathlib.Core.List.{List, [], _∷_, map}
 use mathlib.Core.Path.{_≡_, refl, sym, ap, _∙_}
 use native.Mathlib.Nat.{not-suc-le-zero, le-of-suc-le-suc}
 use native.Mathlib.Omega.{arith}
 use lib.Dec.{eqb, ltb}
 use lib.ListN.{length, drop, length-drop, length-append, length-map}
 use lib.Seq.{drop-drop}
-use borrow.Author.Tests.{ltb-true, ltb-false, lt-ltb, le-ltb, eqb-true, ne-eqb, eq-eqb}
-use Rattle.sets.proofs.Cases.{both, clash}
+use borrow.Author.Tests.{ltb-true, ltb-false, lt-ltb, le-ltb, eqb-true, ne-eqb}
+use Rattle.sets.proofs.Cases.{both}
 use Rattle.event.specs.Event.{packetKind, endKind}
 use Rattle.frames.specs.declared.Outcome.{Outcome}
 use Rattle.frames.specs.Frames.{outcome, emitted}
-use Rattle.pcap.specs.declared.Said.{Said}
 use Rattle.pcap.specs.declared.Said.the-variants.{Event, Skipped, Finished, Refused}
 use Rattle.pcap.specs.declared.Tally.{Tally}
-use Rattle.pcap.specs.declared.Step.{Step}
 use Rattle.pcap.specs.Captures.{lowFirst, ethernet, headerRefusal, headerBytes, whole, recordSize, packet, behind, packets, eventRecord, eventsOf, allEvents, counted, readIn, outcomesIn, refusalIn, shortRecord}
 use Rattle.pcap.specs.Reading.{nothing, stepAt, recordAt, meets, silent, withOne}
 use Rattle.pieces.specs.Pieces.{Ran, stopped, withEvent, readOn, enough}
-use Rattle.pieces.proofs.Turns.{turn, turn-full, turn-event, turn-skipped, turn-finished, turn-refused, whole-behind, ahead}
+use Rattle.pieces.proofs.Turns.{turn, whole-behind}
 use Rattle.claims_captures.proofs.Records.{few-whole, packetsOf, leftOf, packets-first, left-first, packets-none, left-all, behind-length}
-use Rattle.claims_captures.specs.Captured.{withEvents, sumsOf, countsOf, lastSaid, ReadsAll, Reading, ReadingExactly}
+use Rattle.claims_captures.specs.Captured.{withEvents, sumsOf, countsOf, lastSaid, ReadsAll, Reading, OneReading, ReadingExactly}
 use Rattle.claims_captures.proofs.Sums.{counting, counting-sums}
 use Rattle.claims_captures.proofs.Files.{sound-long, packets-behind, refusal-left, refused-left, refusal-bad}
 
@@ -165,7 +163,7 @@ reads-sound f sound =
     record {
       events-are = ap (λ (ps : List (List ℕ)). allEvents (map (outcome (ethernet f)) ps)) (sym same);
       said-is = said-left (leftOf (lowFirst f) (drop headerBytes f)) (refusalIn f) (refusal-left f sound);
-      stands = λ _. sym (refused-left f sound);
+      stands = sym (refused-left f sound) ∙ rw sound;
       sums-are =
           counting-sums (map (outcome (ethernet f)) (packetsOf (lowFirst f) (drop headerBytes f)))
           ∙ ap (λ (ps : List (List ℕ)). sumsOf (map (outcome (ethernet f)) ps)) (sym same);
@@ -177,7 +175,7 @@ reads-bad f bad =
     record {
       events-are = rw bad;
       said-is = rw (refusal-bad f bad, bad);
-      stands = λ e. clash (eq-eqb (headerRefusal f) 0 e) bad;
+      stands = rw bad;
       sums-are = rw bad;
     }
 
@@ -194,6 +192,15 @@ reads-all f (suc k) room =
     (le-of-suc-le-suc (rw (packets-behind f sound) at room)))
     (reads-sound f sound))
     (λ bad. rw (refused-turn k f headerBytes nothing (headerRefusal f) (step-bad f headerBytes nothing bad)) (reads-bad f bad))
+
+pub one-reading : OneReading
+one-reading f r s x y i =
+    record {
+      events = (x .events-are ∙ sym (y .events-are)) i;
+      said = (x .said-is ∙ sym (y .said-is)) i;
+      at = (x .stands ∙ sym (y .stands)) i;
+      tally = (x .sums-are ∙ sym (y .sums-are)) i;
+    }
 
 -- ---- sums that fit
 

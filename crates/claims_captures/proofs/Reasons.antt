@@ -1,18 +1,16 @@
 -- Each packet has one outcome: emitted, or skipped for one of five reasons; and the sums add up. The key of an outcome has 13 bytes.
-use Prim.Native.Nat.{ℕ, zero, suc, _+_, _*_, _≤_, _%_}
+use Prim.Native.Nat.{ℕ, zero, suc, _+_, _≤_}
 use mathlib.Core.Bool.{Bool, true, false, cond}
-use mathlib.Core.List.{List, [], _∷_, _++_, map}
-use mathlib.Core.Path.{_≡_, refl, sym, ap, _∙_}
+use mathlib.Core.List.{List, [], _∷_, map}
+use mathlib.Core.Path.{_≡_, refl}
 use native.Mathlib.Omega.{arith}
 use lib.Dec.{eqb, leb, ltb}
-use lib.ListN.{length, take, drop, length-append, length-drop, length-take, length-map}
-use lib.Seq.{length-take-le}
-use borrow.Author.Tests.{ltb-false, leb-true, eqb-true}
+use lib.ListN.{length, length-append, length-drop, length-take}
+use borrow.Author.Tests.{ltb-false, leb-true}
 use Rattle.sets.proofs.Cases.{both, clash}
 use Rattle.frames.specs.declared.Outcome.{Outcome}
-use Rattle.frames.specs.Frames
 use Rattle.frames.specs.Frames.{outcome, ofEthernet, ofIPv4, asked, carried, skipped, emitted, cutShort, keyIn, portsAt, headerWords, version, etherType, isTCP, isUDP, hasFIN, fragmentOffset}
-use Rattle.pcap.specs.Captures.{counted, countedIn, readIn, packetsIn, outcomesIn, ethernet}
+use Rattle.pcap.specs.Captures.{counted, packetsIn, ethernet}
 use Rattle.claims_captures.specs.Captured.{OneReason, AddsUp}
 
 -- ---- what holds of every outcome

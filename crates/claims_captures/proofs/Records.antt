@@ -1,15 +1,13 @@
 -- The whole records that bytes begin with, and the bytes behind them: how they unfold, without a bound; and what they are when more bytes come.
 use Prim.Native.Nat.{ℕ, zero, suc, _+_, _-_, _<_, _≤_}
 use mathlib.Core.Bool.{Bool, true, false, cond}
-use mathlib.Core.List.{List, [], _∷_, _++_, append-assoc}
+use mathlib.Core.List.{List, [], _∷_, _++_}
 use mathlib.Core.Path.{_≡_, refl, sym, ap, _∙_}
-use native.Mathlib.Nat.{zero-add}
 use native.Mathlib.Omega.{arith}
-use lib.Dec.{eqb, leb, ltb}
-use lib.ListN.{length, getD, take, drop, length-append, length-drop, length-take, List·getD-append}
-use lib.Seq.{take-append-le, drop-append-le, drop-drop, take-take, getD-take}
-use borrow.Author.Tests.{ltb-true, ltb-false, leb-true, lt-ltb, le-ltb, le-leb}
-use Rattle.sets.proofs.Cases.{both, clash}
+use lib.ListN.{length, getD, drop, length-append, length-drop, List·getD-append}
+use lib.Seq.{take-append-le, drop-append-le, drop-drop}
+use borrow.Author.Tests.{lt-ltb, le-ltb, le-leb}
+use Rattle.sets.proofs.Cases.{both}
 use Rattle.pcap.specs.Captures.{captured, recordSize, recordBytes, packet, behind, whole, packets, unread}
 use Rattle.pieces.proofs.Turns.{whole-size}
 

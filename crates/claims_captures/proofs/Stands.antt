@@ -1,19 +1,19 @@
 -- What a capture's whole records gave stays, whatever bytes come behind; and what is given then is that of the bytes left, behind the same header.
-use Prim.Native.Nat.{ℕ, zero, suc, _+_, _-_, _<_, _≤_}
-use mathlib.Core.Bool.{Bool, true, false, cond}
+use Prim.Native.Nat.{ℕ, _+_, _-_, _≤_}
+use mathlib.Core.Bool.{Bool, true, cond}
 use mathlib.Core.List.{List, [], _∷_, _++_, map, map-append, append-assoc}
 use mathlib.Core.Path.{_≡_, refl, sym, ap, _∙_}
 use native.Mathlib.Nat.{zero-add, suc-add}
 use native.Mathlib.Omega.{arith}
 use lib.Dec.{eqb}
-use lib.ListN.{length, take, drop, length-drop, length-append}
+use lib.ListN.{length, drop, length-drop, length-append}
 use lib.Seq.{drop-append-le, length-take-le}
 use borrow.Author.Tests.{eq-eqb}
 use Rattle.sets.proofs.Cases.{both}
 use Rattle.frames.specs.declared.Outcome.{Outcome}
 use Rattle.frames.specs.Frames.{outcome}
 use Rattle.pcap.specs.Captures.{lowFirst, ethernet, headerRefusal, headerBytes, eventsOf, allEvents, counted, packetsIn, outcomesIn, refusalIn, refusedAt, shortRecord}
-use Rattle.claims_captures.specs.Captured.{carriedOn, Stands, BeforeStands}
+use Rattle.claims_captures.specs.Captured.{carriedOn, BeforeStands}
 use Rattle.claims_captures.proofs.Records.{packetsOf, leftOf, packets-append, left-append}
 use Rattle.claims_captures.proofs.Files.{sound-long, SameHeader, low-same, ethernet-same, refusal-same, header-append, header-other, behind-header, packets-behind, refusal-left, refused-left, refused-within, refused-behind, left-from}
 

@@ -1,7 +1,7 @@
 -- A reader whose room is used up gives the first events, and reading on from there gives the rest.
 use Prim.Native.Nat.{ℕ, zero, suc, _+_, _<_, _≤_}
-use mathlib.Core.Bool.{Bool, true, false}
-use mathlib.Core.List.{List, [], _∷_, _++_}
+use mathlib.Core.Bool.{true}
+use mathlib.Core.List.{List}
 use mathlib.Core.Path.{_≡_, refl, sym, ap, _∙_}
 use native.Mathlib.Nat.{not-suc-le-zero, suc-add, zero-add}
 use native.Mathlib.Omega.{arith}
@@ -13,7 +13,7 @@ use Rattle.pcap.specs.declared.Tally.{Tally}
 use Rattle.pcap.specs.Reading.{stepAt}
 use Rattle.pieces.specs.Pieces.{Ran, stopped, withEvent, bySaid, readOn, enough}
 use Rattle.pieces.proofs.Turns.{goesOn as nears, ahead, moves-on, calls-enough, enough-ahead}
-use Rattle.claims_captures.specs.Captured.{goesOn, withEvents, continued, ReadsOn, ReadingOn, MovesOn}
+use Rattle.claims_captures.specs.Captured.{goesOn, continued, ReadingOn, MovesOn}
 
 -- an event in front stays in front
 event-continued : (e : List ℕ) (r more : Ran) (said : Said) → r .said ≡ said → withEvent e (continued r more) ≡ continued (withEvent e r) more

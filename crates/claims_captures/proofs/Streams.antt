@@ -1,29 +1,29 @@
 -- A stream of pieces stands for all bytes that have come: what holds of it at every moment.
-use Prim.Native.Nat.{ℕ, zero, suc, _+_, _*_, _-_, _<_, _≤_, _%_, _^_}
-use mathlib.Core.Bool.{Bool, true, false, cond}
-use mathlib.Core.List.{List, [], _∷_, _++_, append-nil, append-assoc}
+use Prim.Native.Nat.{ℕ, _+_, _*_, _-_, _<_, _≤_, _%_, _^_}
+use mathlib.Core.Bool.{true, false}
+use mathlib.Core.List.{List, [], _++_, append-nil}
 use mathlib.Core.Path.{_≡_, refl, sym, ap, _∙_}
 use native.Mathlib.Omega.{arith}
-use lib.Dec.{eqb, leb, ltb}
-use lib.ListN.{length, getD, take, drop, length-append, length-drop, take-append-drop}
+use lib.Dec.{eqb, ltb}
+use lib.ListN.{length, take, drop, length-append, take-append-drop}
 use lib.Seq.{length-take-le, take-take, take-append-le}
 use borrow.Author.Tests.{lt-ltb, le-ltb, le-leb, eq-eqb, ne-eqb, eqb-true, eqb-false, ltb-true, ltb-false}
-use Rattle.sets.proofs.Cases.{both, clash}
+use Rattle.sets.proofs.Cases.{both}
 use Rattle.event.specs.Event.{eventBytes}
 use Rattle.frames.specs.declared.Outcome.{Outcome}
 use Rattle.pcap.specs.declared.Said.the-variants.{Refused}
 use Rattle.pcap.specs.declared.Tally.{Tally}
-use Rattle.pcap.specs.Captures.{lowFirst, headerRefusal, headerBytes, captured, packetsIn, outcomesIn, eventsIn, allEvents, refusedAt}
+use Rattle.pcap.specs.Captures.{lowFirst, headerRefusal, headerBytes, captured, packetsIn, outcomesIn, allEvents, refusedAt}
 use Rattle.pcap.specs.Reading.{nothing}
 use Rattle.pieces.specs.declared.Kept.{Kept}
 use Rattle.pieces.specs.declared.Stream.{Stream}
-use Rattle.pieces.specs.Pieces.{Ran, stopped, readOn, enough, roomFor, joined, mostRead, written, settledBuffer, settledKept}
-use Rattle.pieces.specs.Streams.{beginning, grown, passing, passedOver, Taken, takenIn, windowDone, windowRead, onwards, passedBy, taken}
+use Rattle.pieces.specs.Pieces.{Ran, stopped, roomFor, joined, mostRead, written, settledBuffer, settledKept}
+use Rattle.pieces.specs.Streams.{beginning, grown, passing, passedOver, Taken, takenIn, windowDone, windowRead, onwards, taken}
 use Rattle.claims_captures.specs.Fed.{Arrives, Fed, begins, comes}
 use Rattle.claims_captures.proofs.Files.{SameHeader, refusal-same, packets-bad, header-append, header-other, refused-within, refused-behind, sound-long}
 use Rattle.claims_captures.proofs.Sums.{counting, counting-append, counting-due}
 use Rattle.claims_captures.proofs.Stands.{events-append}
-use Rattle.claims_captures.proofs.Windows.{keptFrom, kept-length, cutWindow, cut-header, cut-length, firstSize, first-size, cut-append, Settled, all, first, settles}
+use Rattle.claims_captures.proofs.Windows.{keptFrom, kept-length, cutWindow, cut-header, firstSize, first-size, cut-append, Settled, all, first, settles}
 use Rattle.claims_captures.proofs.Cut.{refused-end, cut-sound, cut-refused, cut-outcomes, cut-kept}
 use Rattle.claims_captures.proofs.Carries.{Carries, carries-none, carries-piece, carries-read, kept-none}
 use Rattle.claims_captures.proofs.WindowRead.{events-room, joined-append, WindowRead, reads-window, reads-bad-window}
@@ -259,6 +259,19 @@ module _ (L : ℕ) (come given b : List ℕ) (s : Stream) (p b′ out q : List �
   size′ : length b ≡ L → length b′ ≡ L
   size′ size = a .length-stays ∙ size
 
+  -- a piece that completes nothing
+  silently : (next : Stream) → next .tally ≡ s .tally → Held L (q ++ p) before b′ next → AlongTaken L (come ++ p) given (takenIn b′ out next)
+  silently next same held =
+      record {
+        q = q ++ p;
+        done = done;
+        before = before;
+        carries = carries-piece p c;
+        given-are = append-nil given ∙ given-are;
+        tally-is = same ∙ tally-is;
+        held = held;
+      }
+
   -- ---- the window holds the bytes
 
   plain-length : Plain L q before b s → length q ≡ s .have
@@ -270,25 +283,17 @@ module _ (L : ℕ) (come given b : List ℕ) (s : Stream) (p b′ out q : List �
   grows : Plain L q before b s → s .have + length p < headerBytes → AlongTaken L (come ++ p) given (takenIn b′ out (grown s (length p)))
   grows h few =
       let q-length : length (q ++ p) ≡ s .have + length p = length-append q p ∙ ap (λ (n : ℕ). n + length p) (plain-length h) in
+      silently (grown s (length p)) refl
+      (plain
       record {
-        q = q ++ p;
-        done = done;
-        before = before;
-        carries = carries-piece p c;
-        given-are = append-nil given ∙ given-are;
-        tally-is = tally-is;
-        held =
-            plain
-            record {
-              size = size′ (h .size);
-              within = omega arith;
-              window = plain-window h;
-              no-pass = h .no-pass;
-              before-is = h .before-is;
-              none-whole = packets-bad (q ++ p) (small-header (q ++ p) (omega arith));
-              has-room = λ many. absurd (omega arith);
-            };
-      }
+        size = size′ (h .size);
+        within = omega arith;
+        window = plain-window h;
+        no-pass = h .no-pass;
+        before-is = h .before-is;
+        none-whole = packets-bad (q ++ p) (small-header (q ++ p) (omega arith));
+        has-room = λ many. absurd (omega arith);
+      })
 
   opens : Plain L q before b s → headerBytes ≤ s .have + length p → AlongTaken L (come ++ p) given (windowDone b′ out (grown s (length p)))
   opens h enough-bytes =
@@ -339,27 +344,19 @@ module _ (L : ℕ) (come given b : List ℕ) (s : Stream) (p b′ out q : List �
 
     passes-by : length p < s .pass → AlongTaken L (come ++ p) given (takenIn b′ out (passing s (length p)))
     passes-by less =
+        silently (passing s (length p)) refl
+        (long
         record {
-          q = q ++ p;
-          done = done;
-          before = before;
-          carries = carries-piece p c;
-          given-are = append-nil given ∙ given-are;
-          tally-is = tally-is;
-          held =
-              long
-              record {
-                size = size′ (h .size);
-                have-is = h .have-is;
-                window = piece-window;
-                sound = piece-sound;
-                many = piece-many;
-                passes = omega arith;
-                pass-is = rw (length-append q p, piece-size) (omega (arith, h .pass-is));
-                longer-is = piece-longer;
-                before-is = h .before-is;
-              };
-        }
+          size = size′ (h .size);
+          have-is = h .have-is;
+          window = piece-window;
+          sound = piece-sound;
+          many = piece-many;
+          passes = omega arith;
+          pass-is = rw (length-append q p, piece-size) (omega (arith, h .pass-is));
+          longer-is = piece-longer;
+          before-is = h .before-is;
+        })
 
     -- its last byte has come
     exact : length p ≡ s .pass → headerBytes + firstSize (q ++ p) ≡ length (q ++ p)
@@ -413,15 +410,8 @@ module _ (L : ℕ) (come given b : List ℕ) (s : Stream) (p b′ out q : List �
         let some : 0 < s .pass = omega (arith, eqb-false (s .pass) 0 z) in
         both (ltb (length p) (s .pass)) (λ t.
         rw (taken-passing b′ out s (length p) fits (ltb-true (length p) (s .pass) t))
-        record {
-          q = q ++ p;
-          done = done;
-          before = before;
-          carries = carries-piece p c;
-          given-are = append-nil given ∙ given-are;
-          tally-is = tally-is;
-          held = bad record { size = size′ (h .size); within = h .within; header = header-stays; bad = piece-bad };
-        }) (λ t.
+        (silently (passing s (length p)) refl
+        (bad record { size = size′ (h .size); within = h .within; header = header-stays; bad = piece-bad }))) (λ t.
         let e : length p ≡ s .pass = omega (arith, ltb-false (length p) (s .pass) t, a .no-further some) in
         rw (taken-passed b′ out s (length p) fits some e)
         (done-bad L (come ++ p) given b′ out (passedOver s) (q ++ p) done before big (size′ (h .size)) (h .within) room header-stays piece-bad (carries-piece p c) given-are tally-is)))

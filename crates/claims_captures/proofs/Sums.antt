@@ -1,8 +1,8 @@
 -- The reader's sums after packets of some outcomes: each is the number of packets that it counts, modulo 2^64.
-use Prim.Native.Nat.{ℕ, zero, suc, _+_, _<_, _≤_, _%_, _^_}
+use Prim.Native.Nat.{ℕ, suc, _+_, _<_, _%_, _^_}
 use mathlib.Core.Bool.{Bool, true, false, cond}
 use mathlib.Core.List.{List, [], _∷_, _++_}
-use mathlib.Core.Path.{_≡_, refl, sym, ap, _∙_}
+use mathlib.Core.Path.{_≡_, refl, ap, _∙_}
 use native.Mathlib.Omega.{arith}
 use lib.Dec.{eqb}
 use lib.ListN.{length}

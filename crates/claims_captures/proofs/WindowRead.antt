@@ -1,6 +1,6 @@
 -- A window is read: its events stand in the second buffer, and all of them have room there.
-use Prim.Native.Nat.{ℕ, zero, suc, _+_, _*_, _-_, _/_, _<_, _≤_}
-use mathlib.Core.Bool.{Bool, true, false, cond}
+use Prim.Native.Nat.{ℕ, zero, suc, _*_, _<_, _≤_}
+use mathlib.Core.Bool.{Bool, true, false}
 use mathlib.Core.List.{List, [], _∷_, _++_, map, append-assoc}
 use mathlib.Core.Path.{_≡_, refl, sym, ap, _∙_}
 use native.Mathlib.Nat.{le-of-suc-le-suc}
@@ -20,7 +20,7 @@ use Rattle.claims_captures.specs.Captured.{Every, IsEvent}
 use Rattle.claims_captures.proofs.Records.{behind-length}
 use Rattle.claims_captures.proofs.Files.{sound-long, packets-behind, refused-left}
 use Rattle.claims_captures.proofs.Sums.{counting}
-use Rattle.claims_captures.proofs.ReadAll.{through, read-from, refused-turn, step-bad}
+use Rattle.claims_captures.proofs.ReadAll.{read-from, refused-turn, step-bad}
 use Rattle.claims_captures.proofs.EventsRead.{events-read}
 
 -- ---- room

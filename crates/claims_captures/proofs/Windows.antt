@@ -1,20 +1,20 @@
 -- What is kept of a window that was read: the header and the bytes from a place on; or, of a packet record that the buffer has no room for, the
 -- header and the record's first 104 bytes, whose length then says 88.
-use Prim.Native.Nat.{ℕ, zero, suc, _+_, _-_, _<_, _≤_, min}
+use Prim.Native.Nat.{ℕ, _+_, _-_, _<_, _≤_, min}
 use mathlib.Core.Bool.{Bool, true, false, cond}
-use mathlib.Core.List.{List, [], _∷_, _++_, append-assoc}
+use mathlib.Core.List.{List, _++_, append-assoc}
 use mathlib.Core.Path.{_≡_, refl, sym, ap, _∙_}
 use native.Mathlib.Omega.{arith}
-use lib.Dec.{eqb, leb, ltb}
+use lib.Dec.{ltb}
 use lib.ListN.{length, getD, take, drop, replicate, length-append, length-take, length-drop, length-replicate, List·getD-append}
-use lib.Seq.{length-take-le, take-take, take-at, drop-at, drop-drop, take-append-le, drop-append-le, take-append-add, drop-append-add, getD-append-add, getD-take, getD-drop}
-use borrow.Author.Tests.{ltb-true, ltb-false, le-leb, lt-ltb, le-ltb}
+use lib.Seq.{length-take-le, take-take, take-at, drop-drop, take-append-le, drop-append-le, take-append-add, drop-append-add, getD-append-add, getD-take, getD-drop, drop-at, take-add}
+use borrow.Author.Tests.{ltb-true, ltb-false, le-leb, le-ltb}
 use Rattle.sets.proofs.Cases.{both, clash}
 use Rattle.spans.specs.Spans.{closed}
 use Rattle.pcap.specs.Captures.{lowFirst, captured, recordSize, recordBytes, headerBytes}
 use Rattle.pieces.specs.declared.Kept.{Kept}
-use Rattle.pieces.specs.Pieces.{mostRead, carried, tooLong, trimmed, inOrder, keptAll, keptFirst, settledBuffer, settledKept}
-use Rattle.claims_captures.proofs.Records.{captured-same, captured-append}
+use Rattle.pieces.specs.Pieces.{mostRead, mostReadBytes, carried, tooLong, trimmed, inOrder, keptAll, keptFirst, settledBuffer, settledKept}
+use Rattle.claims_captures.proofs.Records.{captured-append}
 use Rattle.claims_captures.proofs.Files.{SameHeader, low-same, header-append}
 use Rattle.claims_captures.proofs.First.{take-within}
 
@@ -40,13 +40,21 @@ module _ (b : List ℕ) (n at : ℕ) (low : headerBytes ≤ at) (mid : at ≤ n)
       length-append (take headerBytes (take n b)) (drop at (take n b))
       ∙ omega (arith, length-take-le headerBytes (take n b) (rw window-length (omega arith)), length-drop at (take n b), window-length)
 
+  -- the records of the window
+  records-are : take (n - headerBytes) (drop headerBytes b) ≡ drop headerBytes (take n b)
+  records-are =
+      let far : headerBytes + (n - headerBytes) ≡ n = omega arith in
+      sym (drop-at (take headerBytes b) (take (n - headerBytes) (drop headerBytes b)) headerBytes (length-take-le headerBytes b (omega arith)))
+      ∙ ap (drop headerBytes) (sym (take-add headerBytes (n - headerBytes) b) ∙ ap (λ (k : ℕ). take k b) far)
+
   -- the buffer begins with what is kept
   carried-is : carried b n at ≡ keptFrom (take n b) at ++ spare b n at
   carried-is =
       let w = take n b in
       let z : List ℕ = replicate (min (at - headerBytes) (length (drop headerBytes w))) 0 in
       let place : headerBytes + (at - headerBytes) ≡ at = omega arith in
-      ap (λ (l : List ℕ). take headerBytes b ++ ((l ++ z) ++ drop n b)) (drop-drop (at - headerBytes) headerBytes w ∙ ap (λ (k : ℕ). drop k w) place)
+      ap (λ (l : List ℕ). take headerBytes b ++ (closed (at - headerBytes) l ++ drop n b)) records-are
+      ∙ ap (λ (l : List ℕ). take headerBytes b ++ ((l ++ z) ++ drop n b)) (drop-drop (at - headerBytes) headerBytes w ∙ ap (λ (k : ℕ). drop k w) place)
       ∙ regroup (take headerBytes b) (drop at w) z (drop n b)
       ∙ ap (λ (l : List ℕ). (l ++ drop at w) ++ (z ++ drop n b)) (sym (take-take headerBytes n b (omega arith)))
 
@@ -58,15 +66,11 @@ module _ (b : List ℕ) (n at : ℕ) (low : headerBytes ≤ at) (mid : at ≤ n)
 
 -- ---- a record cut to its first bytes
 
--- the four bytes that spell 88, in a file's byte order
-abbrev cutLength : Bool → List ℕ
-cutLength low = cond low (mostRead ∷ 0 ∷ 0 ∷ 0 ∷ []) (0 ∷ 0 ∷ 0 ∷ mostRead ∷ [])
-
 -- the header and the first 104 bytes of the record behind it, whose length says 88
 abbrev pub cutWindow : List ℕ → List ℕ
-cutWindow v = take 32 v ++ (cutLength (lowFirst v) ++ take 92 (drop 36 v))
+cutWindow v = take 32 v ++ (mostReadBytes (lowFirst v) ++ take 92 (drop 36 v))
 
-four-long : (low : Bool) → length (cutLength low) ≡ 4
+four-long : (low : Bool) → length (mostReadBytes low) ≡ 4
 four-long true = refl
 four-long false = refl
 
@@ -102,9 +106,9 @@ module _ (v : List ℕ) (long : 128 ≤ length v) where
 
   pub cut-length : length (cutWindow v) ≡ 128
   cut-length =
-      length-append (take 32 v) (cutLength (lowFirst v) ++ take 92 (drop 36 v))
+      length-append (take 32 v) (mostReadBytes (lowFirst v) ++ take 92 (drop 36 v))
       ∙ omega
-      (arith, front, length-append (cutLength (lowFirst v)) (take 92 (drop 36 v)), four-long (lowFirst v), length-take 92 (drop 36 v), length-drop 36 v)
+      (arith, front, length-append (mostReadBytes (lowFirst v)) (take 92 (drop 36 v)), four-long (lowFirst v), length-take 92 (drop 36 v), length-drop 36 v)
 
   pub cut-header : SameHeader (cutWindow v) v
   cut-header =
@@ -112,20 +116,20 @@ module _ (v : List ℕ) (long : 128 ≤ length v) where
         long = rw cut-length (omega arith);
         long′ = omega arith;
         same = λ i h.
-            part-front (take 32 v) (cutLength (lowFirst v)) (take 92 (drop 36 v)) front (four-long (lowFirst v)) i (omega arith)
+            part-front (take 32 v) (mostReadBytes (lowFirst v)) (take 92 (drop 36 v)) front (four-long (lowFirst v)) i (omega arith)
             ∙ getD-take 32 v i 0 (omega arith);
       }
 
   -- the bytes of the length field
-  cut-field : (i : ℕ) → i < 4 → getD (drop headerBytes (cutWindow v)) (8 + i) 0 ≡ getD (cutLength (lowFirst v)) i 0
+  cut-field : (i : ℕ) → i < 4 → getD (drop headerBytes (cutWindow v)) (8 + i) 0 ≡ getD (mostReadBytes (lowFirst v)) i 0
   cut-field i h =
       let far : headerBytes + (8 + i) ≡ 32 + i = omega arith in
       getD-drop headerBytes (cutWindow v) (8 + i) 0
       ∙ ap (λ (k : ℕ). getD (cutWindow v) k 0) far
-      ∙ part-at (take 32 v) (cutLength (lowFirst v)) (take 92 (drop 36 v)) front (four-long (lowFirst v)) i h
+      ∙ part-at (take 32 v) (mostReadBytes (lowFirst v)) (take 92 (drop 36 v)) front (four-long (lowFirst v)) i h
 
   -- the captured length is 88
-  spelt : (low : Bool) (bytes : List ℕ) → ((i : ℕ) → i < 4 → getD bytes (8 + i) 0 ≡ getD (cutLength low) i 0) → captured low bytes ≡ mostRead
+  spelt : (low : Bool) (bytes : List ℕ) → ((i : ℕ) → i < 4 → getD bytes (8 + i) 0 ≡ getD (mostReadBytes low) i 0) → captured low bytes ≡ mostRead
   unfolding captured
   spelt true bytes at = rw (at 0 (omega arith), at 1 (omega arith), at 2 (omega arith), at 3 (omega arith))
   spelt false bytes at = rw (at 0 (omega arith), at 1 (omega arith), at 2 (omega arith), at 3 (omega arith))
@@ -138,7 +142,7 @@ module _ (v : List ℕ) (long : 128 ≤ length v) where
   cut-bytes =
       ap (take mostRead) (drop-drop recordBytes headerBytes (cutWindow v))
       ∙ ap (take mostRead)
-      (part-drop (take 32 v) (cutLength (lowFirst v)) (take 92 (drop 36 v)) front (four-long (lowFirst v)) 4)
+      (part-drop (take 32 v) (mostReadBytes (lowFirst v)) (take 92 (drop 36 v)) front (four-long (lowFirst v)) 4)
       ∙ take-within mostRead 4 92 (drop 36 v) (omega arith)
       ∙ ap (take mostRead) (drop-drop 4 36 v ∙ sym (drop-drop recordBytes headerBytes v))
 
@@ -157,9 +161,9 @@ pub data Settled (L : ℕ) (v b : List ℕ) (k : Kept) : Type 0 where
 
 trimmed-length : (b : List ℕ) → 36 ≤ length b → length (trimmed b) ≡ length b
 trimmed-length b h =
-    length-append (take 32 b) (cutLength (lowFirst b) ++ drop 36 b)
+    length-append (take 32 b) (mostReadBytes (lowFirst b) ++ drop 36 b)
     ∙ omega
-    (arith, length-take-le 32 b (omega arith), length-append (cutLength (lowFirst b)) (drop 36 b), four-long (lowFirst b), length-drop 36 b)
+    (arith, length-take-le 32 b (omega arith), length-append (mostReadBytes (lowFirst b)) (drop 36 b), four-long (lowFirst b), length-drop 36 b)
 
 three : {a a′ x x′ d d′ : List ℕ} → a ≡ a′ → x ≡ x′ → d ≡ d′ → a ++ (x ++ d) ≡ a′ ++ (x′ ++ d′)
 three p q r = cc
@@ -180,12 +184,12 @@ module _ (v z : List ℕ) (kept : ℕ) (n : length v ≡ headerBytes + kept) whe
   -- what is cut off doesn't count
   pub cut-append : 128 ≤ length v → cutWindow (v ++ z) ≡ cutWindow v
   cut-append long =
-      three (take-append-le 32 v z (omega arith)) (ap cutLength first-low)
+      three (take-append-le 32 v z (omega arith)) (ap mostReadBytes first-low)
       (ap (take 92) (drop-append-le 36 v z (omega arith)) ∙ take-append-le 92 (drop 36 v) z (simp length-drop (omega arith)))
 
   cut-front : 128 ≤ length v → take 128 (trimmed (v ++ z)) ≡ cutWindow v
   cut-front long =
-      part-take (take 32 (v ++ z)) (cutLength (lowFirst (v ++ z))) (drop 36 (v ++ z)) (length-take-le 32 (v ++ z) (rw length-append (omega arith)))
+      part-take (take 32 (v ++ z)) (mostReadBytes (lowFirst (v ++ z))) (drop 36 (v ++ z)) (length-take-le 32 (v ++ z) (rw length-append (omega arith)))
       (four-long (lowFirst (v ++ z))) 92
       ∙ cut-append long
 

@@ -60,16 +60,21 @@ abbrev pub lastSaid : ℕ → Said
 lastSaid refusal = cond (eqb refusal 0) Finished (Refused refusal)
 
 -- the reader, called from the first packet on until there is no more, gives the defined events in order, says the defined refusal (or that the
--- capture has ended), stands where the refusal stands (or at the end), and its sums are the defined ones. It needs room for one event more
--- than there are: a reader whose room is used up doesn't look whether the capture has ended. Any list of numbers, bytes or not
+-- capture has ended), stands where a 22 stands (or at the end; before the first packet where the header is refused), and its sums are the
+-- defined ones. It needs room for one event more than there are: a reader whose room is used up doesn't look whether the capture has ended.
+-- This holds of any list of numbers, bytes or not
 pub record ReadsAll (f : List ℕ) (r : Ran) : Type 0 where
   pub events-are : r .events ≡ eventsIn f
   pub said-is : r .said ≡ lastSaid (refusalIn f)
-  pub stands : headerRefusal f ≡ 0 → r .at ≡ refusedAt f
+  pub stands : r .at ≡ cond (eqb (headerRefusal f) 0) (refusedAt f) headerBytes
   pub sums-are : r .tally ≡ sumsOf (outcomesIn f)
 
 abbrev pub Reading : Type 0
 Reading = (f : List ℕ) (k : ℕ) → length (eventsIn f) < k → ReadsAll f (readOn (enough f) k f headerBytes nothing)
+
+-- and nothing else can be read of a file
+abbrev pub OneReading : Type 0
+OneReading = (f : List ℕ) (r s : Ran) → ReadsAll f r → ReadsAll f s → r ≡ s
 
 -- in a file of fewer than 2^64 bytes no sum leaves its 64 bits
 abbrev pub ReadingExactly : Type 0
@@ -125,7 +130,7 @@ pub record Stands (f more : List ℕ) : Type 0 where
 abbrev pub BeforeStands : Type 0
 BeforeStands = (f more : List ℕ) → headerRefusal f ≡ 0 → Stands f more
 
--- "a packet longer than a buffer is read by its first bytes": a packet's outcome goes by its first 88 bytes. Any numbers, bytes or not
+-- a packet's outcome goes by its first 88 bytes, so that one longer than a buffer can be read by these. Any numbers, bytes or not
 abbrev pub FirstBytes : Type 0
 FirstBytes = (ethernet : Bool) (packet : List ℕ) → outcome ethernet (take mostRead packet) ≡ outcome ethernet packet
 

@@ -3,10 +3,11 @@
 use Prim.Native.Nat.{ℕ, _+_, _*_, _≤_, _<_, _%_, _^_}
 use mathlib.Core.Bool.{cond}
 use mathlib.Core.List.{List, [], _++_}
+use mathlib.Core.Logic.{_⊎_}
 use mathlib.Core.Path.{_≡_}
 use lib.Dec.{eqb}
 use lib.ListN.{length, take}
-use Rattle.pcap.specs.Captures.{headerRefusal, eventsIn, outcomesIn, refusalIn, refusedAt}
+use Rattle.pcap.specs.Captures.{headerBytes, headerRefusal, eventsIn, outcomesIn, refusalIn, refusedAt}
 use Rattle.pieces.specs.declared.Stream.{Stream}
 use Rattle.pieces.specs.Pieces.{joined}
 use Rattle.pieces.specs.Streams.{beginning, taken, ending}
@@ -31,14 +32,24 @@ pub data Fed (L : ℕ) : List ℕ → List ℕ → List ℕ → Stream → Type 
       ((taken b′ out s (length piece)) .answer .stream)
 
 -- at every moment the bytes given are the events of what has come, the sums are its sums, and if the capture ended there, its refusal and the byte
--- where that stands would be those of what has come (in 64 bits; 0 where there is no refusal). And with a sound header and a buffer of more than
--- 128 bytes there is always room for the next piece
+-- where that stands would be those of what has come (in 64 bits; 0 where there is no refusal). And in a buffer of more than 128 bytes there is
+-- always room for the next piece, but for a file whose header is refused
 pub record SameAs (L : ℕ) (come given b : List ℕ) (s : Stream) : Type 0 where
   pub events-same : given ≡ joined (eventsIn come)
   pub sums-same : s .tally ≡ sumsOf (outcomesIn come)
   pub refusal-same : (ending b s) .refusal ≡ refusalIn come
   pub place-same : (ending b s) .at ≡ cond (eqb (refusalIn come) 0) 0 (refusedAt come % 2 ^ 64)
-  pub room-left : headerRefusal come ≡ 0 → 128 < L → s .have < L
+  pub room-left : (length come < headerBytes) ⊎ (headerRefusal come ≡ 0) → 128 < L → s .have < L
 
 abbrev pub PiecesSame : Type 0
 PiecesSame = (L : ℕ) (come given b : List ℕ) (s : Stream) → 128 ≤ L → Fed L come given b s → SameAs L come given b s
+
+-- so a capture of any length can be taken in
+pub record Feeds (L : ℕ) (f : List ℕ) : Type 0 where
+  pub given : List ℕ
+  pub buffer : List ℕ
+  pub stream : Stream
+  pub fed : Fed L f given buffer stream
+
+abbrev pub AnyLength : Type 0
+AnyLength = (L : ℕ) (f : List ℕ) → 128 < L → headerRefusal f ≡ 0 → Feeds L f
