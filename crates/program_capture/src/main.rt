@@ -1,5 +1,7 @@
 // The capture program: a capture on standard input becomes event records on standard output; a line on standard error says
 // how many packets there were, and why some were skipped. Memory is constant, however long the capture is.
+ghost use Prim.Native.Nat.{_-_, _≤_};
+
 mod report;
 
 use libc::STDIN_FILENO;
@@ -25,13 +27,14 @@ fn run(buffer: &mut [u8], out: &mut [u8]) -> Outcome {
         let got = fetch(buffer, stream);
         let more = pieces::advance(buffer, out, stream, got);
         stream = more.stream;
+        let said = stream.said;
         if !write(out, more.filled) {
             return Outcome {
                 stream: stream,
                 written: false,
             };
         }
-        left = pieces_left(left, got, stream.said);
+        left = pieces_left(left, got, said);
     }
     Outcome {
         stream: stream,
@@ -44,7 +47,8 @@ fn run(buffer: &mut [u8], out: &mut [u8]) -> Outcome {
 fn fetch(buffer: &mut [u8], stream: Stream) -> usize {
     let have = stream.have;
     let pass = stream.pass;
-    if is_event(stream.said) {
+    let said = stream.said;
+    if is_event(said) {
         return 0;
     }
     if have > buffer.len() {
@@ -74,7 +78,9 @@ fn read(span: &mut [u8]) -> usize {
 }
 
 // How many pieces may still come: none once the input has ended, or is refused by its header.
-fn pieces_left(left: u64, got: usize, said: Said) -> u64 {
+fn pieces_left(left: u64, got: usize, said: Said) -> u64
+    ensures { λ r. ⌜ r ≤ left - 1 ⌝ }
+{
     if left == 0 {
         return 0;
     }
@@ -86,7 +92,9 @@ fn pieces_left(left: u64, got: usize, said: Said) -> u64 {
 }
 
 // The same where the reader gave no event last.
-fn behind(left: u64, got: usize, refusal: u8) -> u64 {
+fn behind(left: u64, got: usize, refusal: u8) -> u64
+    ensures { λ r. ⌜ r ≤ left - 1 ⌝ }
+{
     if left == 0 {
         return 0;
     }
