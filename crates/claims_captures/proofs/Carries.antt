@@ -1,5 +1,5 @@
--- A capture of which some bytes have come, and shorter bytes that stand for them: whatever comes, the outcomes are those of the packets that are
--- done and then those of the shorter bytes; the refusal is the same, and its place differs by the bytes that are done.
+-- A capture of which some bytes have come, and shorter bytes that stand for them: whatever comes, the outcomes are those of the packets
+-- that are done and then those of the shorter bytes; the refusal is the same, and its place differs by the bytes that are done.
 use Prim.Native.Nat.{ℕ, _+_, _-_, _≤_}
 use mathlib.Core.Bool.{true}
 use mathlib.Core.List.{List, [], _∷_, _++_, append-assoc, append-nil}

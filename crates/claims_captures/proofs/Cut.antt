@@ -1,4 +1,5 @@
--- A capture of one packet record, and the same cut to the record's first 104 bytes: one packet each, with the same outcome, and nothing left.
+-- A capture of one packet record, and the same cut to the record's first 104 bytes: one packet each, with the same outcome, and nothing
+-- left.
 use Prim.Native.Nat.{ℕ, _+_, _-_, _≤_}
 use mathlib.Core.Bool.{Bool, true}
 use mathlib.Core.List.{List, [], _∷_, _++_, map}

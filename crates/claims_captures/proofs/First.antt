@@ -1,5 +1,5 @@
--- A packet's outcome goes by its first 88 bytes: 14 of Ethernet, at most 60 of IPv4, 14 up to TCP's flags. Any numbers will do for bytes: a header
--- length is a remainder by 16.
+-- A packet's outcome goes by its first 88 bytes: 14 of Ethernet, at most 60 of IPv4, 14 up to TCP's flags. Any numbers will do for bytes: a
+-- header length is a remainder by 16.
 use Prim.Native.Nat.{ℕ, zero, suc, _+_, _<_, _≤_}
 use mathlib.Core.Bool.{true, false}
 use mathlib.Core.List.{List, [], _∷_}

@@ -15,7 +15,8 @@ use Rattle.claims_captures.specs.Captured.{OneReason, AddsUp}
 
 -- ---- what holds of every outcome
 
--- of a packet's outcome by a question: it is cut short or skipped, or the question's bytes are there, the answer is yes, and the next follows
+-- of a packet's outcome by a question: it is cut short or skipped, or the question's bytes are there, the answer is yes, and the next
+-- follows
 asked-holds : (P : Outcome → Type 0) (b : List ℕ) (n : ℕ) (holds : Bool) (why : ℕ) (next : Outcome) → P (skipped cutShort) → P (skipped why)
     → (n ≤ length b → holds ≡ true → P next) → P (asked b n holds why next)
 asked-holds P b n holds why next cut skip go =

@@ -1,4 +1,5 @@
--- The whole records that bytes begin with, and the bytes behind them: how they unfold, without a bound; and what they are when more bytes come.
+-- The whole records that bytes begin with, and the bytes behind them: how they unfold, without a bound; and what they are when more bytes
+-- come.
 use Prim.Native.Nat.{ℕ, zero, suc, _+_, _-_, _<_, _≤_}
 use mathlib.Core.Bool.{Bool, true, false, cond}
 use mathlib.Core.List.{List, [], _∷_, _++_}

@@ -1,4 +1,5 @@
--- What a capture's whole records gave stays, whatever bytes come behind; and what is given then is that of the bytes left, behind the same header.
+-- What a capture's whole records gave stays, whatever bytes come behind; and what is given then is that of the bytes left, behind the same
+-- header.
 use Prim.Native.Nat.{ℕ, _+_, _-_, _≤_}
 use mathlib.Core.Bool.{Bool, true, cond}
 use mathlib.Core.List.{List, [], _∷_, _++_, map, map-append, append-assoc}

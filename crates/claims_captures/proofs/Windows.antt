@@ -1,5 +1,5 @@
--- What is kept of a window that was read: the header and the bytes from a place on; or, of a packet record that the buffer has no room for, the
--- header and the record's first 104 bytes, whose length then says 88.
+-- What is kept of a window that was read: the header and the bytes from a place on; or, of a packet record that the buffer has no room for,
+-- the header and the record's first 104 bytes, whose length then says 88.
 use Prim.Native.Nat.{ℕ, _+_, _-_, _<_, _≤_, min}
 use mathlib.Core.Bool.{Bool, true, false, cond}
 use mathlib.Core.List.{List, _++_, append-assoc}
@@ -152,8 +152,8 @@ module _ (v : List ℕ) (long : 128 ≤ length v) where
 abbrev pub firstSize : List ℕ → ℕ
 firstSize v = recordSize (lowFirst v) (drop headerBytes v)
 
--- of a window v, in a buffer of L bytes: all of it is kept, and where a record's first 104 bytes are there the buffer has room for the record; or
--- only those bytes are kept
+-- of a window v, in a buffer of L bytes: all of it is kept, and where a record's first 104 bytes are there the buffer has room for the
+-- record; or only those bytes are kept
 pub data Settled (L : ℕ) (v b : List ℕ) (k : Kept) : Type 0 where
   all : length b ≡ L → take (k .have) b ≡ v → k .have ≡ length v → k .pass ≡ 0 → (128 ≤ length v → headerBytes + firstSize v ≤ L) → Settled L v b k
   first : length b ≡ L → take 128 b ≡ cutWindow v → k .have ≡ 128 → 128 ≤ length v → L < headerBytes + firstSize v

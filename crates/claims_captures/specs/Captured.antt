@@ -59,10 +59,10 @@ sumsOf os =
 abbrev pub lastSaid : ℕ → Said
 lastSaid refusal = cond (eqb refusal 0) Finished (Refused refusal)
 
--- the reader, called from the first packet on until there is no more, gives the defined events in order, says the defined refusal (or that the
--- capture has ended), stands where a 22 stands (or at the end; before the first packet where the header is refused), and its sums are the
--- defined ones. It needs room for one event more than there are: a reader whose room is used up doesn't look whether the capture has ended.
--- This holds of any list of numbers, bytes or not
+-- the reader, called from the first packet on until there is no more, gives the defined events in order, says the defined refusal (or that
+-- the capture has ended), stands where a 22 stands (or at the end; before the first packet where the header is refused), and its sums are
+-- the defined ones. It needs room for one event more than there are: a reader whose room is used up doesn't look whether the capture has
+-- ended. This holds of any list of numbers, bytes or not
 pub record ReadsAll (f : List ℕ) (r : Ran) : Type 0 where
   pub events-are : r .events ≡ eventsIn f
   pub said-is : r .said ≡ lastSaid (refusalIn f)
@@ -114,8 +114,8 @@ pub record MovesOn (f : List ℕ) (at : ℕ) (t : Tally) : Type 0 where
   pub falls : goesOn ((stepAt f at t) .said) ≡ true → callsAhead f ((stepAt f at t) .at) ((stepAt f at t) .tally) < callsAhead f at t
   pub ends : (n m k : ℕ) → callsAhead f at t < n → callsAhead f at t < m → readOn n k f at t ≡ readOn m k f at t
 
--- "what was emitted before 22 stands": whatever bytes come behind a capture's, its packets, events and sums stay, and the rest is that of the
--- same header with the unread bytes and those behind. So do the refusal, and its place, by so many bytes as were read
+-- "what was emitted before 22 stands": whatever bytes come behind a capture's, its packets, events and sums stay, and what is added is that
+-- of the same header with the unread bytes and those that came. The refusal is that one's too, and stands further on by the records read
 abbrev pub carriedOn : List ℕ → List ℕ → List ℕ
 carriedOn f more = take headerBytes f ++ (drop (refusedAt f) f ++ more)
 
@@ -134,7 +134,8 @@ BeforeStands = (f more : List ℕ) → headerRefusal f ≡ 0 → Stands f more
 abbrev pub FirstBytes : Type 0
 FirstBytes = (ethernet : Bool) (packet : List ℕ) → outcome ethernet (take mostRead packet) ≡ outcome ethernet packet
 
--- "turned into event records": each event of a capture is a record of 16 bytes that reads, without a refusal, as a packet or an end of its key
+-- "turned into event records": each event of a capture is a record of 16 bytes that reads, without a refusal, as a packet or an end of its
+-- key
 pub record IsEvent (e : List ℕ) : Type 0 where
   pub kind : ℕ
   pub key : List ℕ

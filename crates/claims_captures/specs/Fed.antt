@@ -1,5 +1,5 @@
--- Request [2]: a capture of any length in a buffer of one length. A stream takes the capture in pieces, and gives what is defined from the whole
--- file.
+-- Request [2]: a capture of any length in a buffer of one length. A stream takes the capture in pieces, and gives what is defined from the
+-- whole file.
 use Prim.Native.Nat.{ℕ, _+_, _*_, _≤_, _<_, _%_, _^_}
 use mathlib.Core.Bool.{cond}
 use mathlib.Core.List.{List, [], _++_}
@@ -13,16 +13,16 @@ use Rattle.pieces.specs.Pieces.{joined}
 use Rattle.pieces.specs.Streams.{beginning, taken, ending}
 use Rattle.claims_captures.specs.Captured.{sumsOf}
 
--- a piece comes: it stands behind the window of a buffer as long as before, whatever stands behind it, and goes no further than a packet that is
--- passed over. A piece may be empty
+-- a piece comes: it stands behind the window of a buffer as long as before, whatever stands behind it, and goes no further than a packet
+-- that is passed over. A piece may be empty
 pub record Arrives (b : List ℕ) (s : Stream) (piece b′ : List ℕ) : Type 0 where
   pub length-stays : length b′ ≡ length b
   pub stands : take (s .have + length piece) b′ ≡ take (s .have) b ++ piece
   pub fits : s .have + length piece ≤ length b
   pub no-further : 0 < s .pass → length piece ≤ s .pass
 
--- a stream over a buffer of so many bytes, from its beginning on, piece by piece: all bytes that have come, the event bytes that were given, the
--- buffer and the stream. The second buffer is twice as long as the first, which is room for all events of a window
+-- a stream over a buffer of so many bytes, from its beginning on, piece by piece: all bytes that have come, the event bytes that were
+-- given, the buffer and the stream. The second buffer is twice as long as the first, which is room for all events of a window
 pub data Fed (L : ℕ) : List ℕ → List ℕ → List ℕ → Stream → Type 0 where
   begins : (b : List ℕ) → length b ≡ L → Fed L [] [] b beginning
   comes : {come given b : List ℕ} {s : Stream} → Fed L come given b s → (piece b′ out : List ℕ) → Arrives b s piece b′ → 2 * L ≤ length out
@@ -31,9 +31,9 @@ pub data Fed (L : ℕ) : List ℕ → List ℕ → List ℕ → Stream → Type 
       ((taken b′ out s (length piece)) .buffer)
       ((taken b′ out s (length piece)) .answer .stream)
 
--- at every moment the bytes given are the events of what has come, the sums are its sums, and if the capture ended there, its refusal and the byte
--- where that stands would be those of what has come (in 64 bits; 0 where there is no refusal). And in a buffer of more than 128 bytes there is
--- always room for the next piece, but for a file whose header is refused
+-- at every moment the bytes given are the events of what has come, the sums are its sums, and if the capture ended there, its refusal and
+-- the byte where that stands would be those of what has come (in 64 bits; 0 where there is no refusal). And in a buffer of more than 128
+-- bytes there is always room for the next piece, but for a file whose header is refused
 pub record SameAs (L : ℕ) (come given b : List ℕ) (s : Stream) : Type 0 where
   pub events-same : given ≡ joined (eventsIn come)
   pub sums-same : s .tally ≡ sumsOf (outcomesIn come)
