@@ -1,4 +1,5 @@
 // A capture that is handed over in pieces, in many ways: each has to come to what the whole does.
+ghost use Prim.Native.Nat.{_≤_};
 use crate::numbers;
 use crate::numbers::Numbers;
 use crate::numbers::OFFSET;
@@ -98,36 +99,64 @@ fn handed(
     b: usize,
     size: usize,
 ) -> Numbers {
-    let mut stream = pieces::begin();
-    let mut h = OFFSET;
+    let mut state = Progress {
+        stream: pieces::begin(),
+        digest: OFFSET,
+    };
     let mut at = 0;
     while at < capture.len() {
-        let rest: &[u8] = &capture[at..];
-        let got = lower(
-            lower(lower(rest.len(), size), room(buffer, stream)),
-            till(at, a, b),
-        );
+        let most = lower(till(at, a, b), lower(size, room(buffer, state)));
+        let got = lower(capture.len() - at, most);
         if got == 0 {
             break;
         }
-        copy(buffer, stream.have, &rest[..got]);
-        let more = pieces::advance(buffer, out, stream, got);
-        stream = more.stream;
-        h = numbers::digest(h, out, more.filled);
+        state = turn(capture, at, got, buffer, out, state);
         at += got;
     }
+    ended(buffer, state)
+}
+
+// A capture of which pieces were handed over, and the digest of the events so far.
+pub struct Progress {
+    pub stream: Stream,
+    pub digest: u64,
+}
+
+// Hands over the piece of `got` bytes that stands at a place.
+fn turn(
+    capture: &[u8],
+    at: usize,
+    got: usize,
+    buffer: &mut [u8],
+    out: &mut [u8],
+    state: Progress,
+) -> Progress {
+    let stream = state.stream;
+    copy(buffer, stream.have, capture, at, got);
+    let more = pieces::advance(buffer, out, stream, got);
+    let next = more.stream;
+    Progress {
+        stream: next,
+        digest: numbers::digest(state.digest, out, more.filled),
+    }
+}
+
+// What the capture has come to.
+fn ended(buffer: &[u8], state: Progress) -> Numbers {
+    let stream = state.stream;
     let end = pieces::end(buffer, stream);
     let tally = stream.tally;
     Numbers {
         tally: tally,
         refusal: end.refusal,
         at: end.at,
-        digest: h,
+        digest: state.digest,
     }
 }
 
 // How many bytes may come: up to the buffer's end, or to the end of the packet that is passed over.
-fn room(buffer: &[u8], stream: Stream) -> usize {
+fn room(buffer: &[u8], state: Progress) -> usize {
+    let stream = state.stream;
     let have = stream.have;
     if have > buffer.len() {
         return 0;
@@ -150,24 +179,32 @@ fn till(at: usize, a: usize, b: usize) -> usize {
 }
 
 // The lower of two numbers.
-fn lower(a: usize, b: usize) -> usize {
+fn lower(a: usize, b: usize) -> usize
+    ensures { λ r. ⌜ r ≤ a ⌝ }
+{
     if a < b {
         return a;
     }
     b
 }
 
-// Puts a piece into the buffer behind the window.
-fn copy(buffer: &mut [u8], at: usize, piece: &[u8]) {
-    if at > buffer.len() {
+// Puts the piece of `got` bytes that stands at a place of a capture into the buffer, behind the window.
+fn copy(buffer: &mut [u8], have: usize, capture: &[u8], at: usize, got: usize) {
+    if have > buffer.len() {
         return;
     }
-    if piece.len() > buffer.len() - at {
+    if got > buffer.len() - have {
+        return;
+    }
+    if at > capture.len() {
+        return;
+    }
+    if got > capture.len() - at {
         return;
     }
     let mut i = 0;
-    while i < piece.len() {
-        buffer[at + i] = piece[i];
+    while i < got {
+        buffer[have + i] = capture[at + i];
         i += 1;
     }
 }

@@ -46,10 +46,15 @@ pub(crate) fn digest(from: u64, out: &[u8], filled: usize) -> u64 {
         if i >= filled {
             return h;
         }
-        h = step(h, out[i] as u64);
+        h = step(h, wide(out[i]));
         i += 1;
     }
     h
+}
+
+// A byte as a number.
+fn wide(x: u8) -> u64 {
+    x as u64
 }
 
 // A digest with a number taken in.
