@@ -7,7 +7,7 @@ use crate::text;
 use pieces::Stream;
 
 // The longest capture of which every two cuts are tried.
-const TWO_CUTS: usize = 170;
+const TWO_CUTS: usize = 240;
 
 // A line for each length of the buffer.
 pub(crate) fn buffers(capture: &[u8], whole: Numbers, buffer: &mut [u8], out: &mut [u8]) {
