@@ -6,11 +6,11 @@ use mathlib.Core.List.{List, _++_, append-assoc}
 use mathlib.Core.Path.{_≡_, refl, sym, ap, _∙_}
 use native.Mathlib.Omega.{arith}
 use lib.Dec.{ltb}
-use lib.ListN.{length, getD, take, drop, replicate, length-append, length-take, length-drop, length-replicate, List·getD-append}
+use lib.ListN.{length, getD, take, drop, length-append, length-take, length-drop, List·getD-append}
 use lib.Seq.{length-take-le, take-take, take-at, drop-drop, take-append-le, drop-append-le, take-append-add, drop-append-add, getD-append-add, getD-take, getD-drop, drop-at, take-add}
 use borrow.Author.Tests.{ltb-true, ltb-false, le-leb, le-ltb}
 use Rattle.sets.proofs.Cases.{both, clash}
-use Rattle.spans.specs.Spans.{closed}
+use Rattle.spans.specs.Spans.{shifted}
 use Rattle.pcap.specs.Captures.{lowFirst, captured, recordSize, recordBytes, headerBytes}
 use Rattle.pieces.specs.declared.Kept.{Kept}
 use Rattle.pieces.specs.Pieces.{mostRead, mostReadBytes, carried, tooLong, trimmed, inOrder, keptAll, keptFirst, settledBuffer, settledKept}
@@ -29,7 +29,9 @@ regroup a d z e = simp append-assoc
 
 -- what stands behind it in the buffer
 abbrev spare : List ℕ → ℕ → ℕ → List ℕ
-spare b n at = replicate (min (at - headerBytes) (length (drop headerBytes (take n b)))) 0 ++ drop n b
+spare b n at =
+    let rest = drop headerBytes (take n b) in
+    drop (length rest - (at - headerBytes)) rest ++ drop n b
 
 module _ (b : List ℕ) (n at : ℕ) (low : headerBytes ≤ at) (mid : at ≤ n) (high : n ≤ length b) where
   window-length : length (take n b) ≡ n
@@ -51,18 +53,19 @@ module _ (b : List ℕ) (n at : ℕ) (low : headerBytes ≤ at) (mid : at ≤ n)
   carried-is : carried b n at ≡ keptFrom (take n b) at ++ spare b n at
   carried-is =
       let w = take n b in
-      let z : List ℕ = replicate (min (at - headerBytes) (length (drop headerBytes w))) 0 in
+      let z : List ℕ = drop (length (drop headerBytes w) - (at - headerBytes)) (drop headerBytes w) in
       let place : headerBytes + (at - headerBytes) ≡ at = omega arith in
-      ap (λ (l : List ℕ). take headerBytes b ++ (closed (at - headerBytes) l ++ drop n b)) records-are
+      ap (λ (l : List ℕ). take headerBytes b ++ (shifted (at - headerBytes) l ++ drop n b)) records-are
       ∙ ap (λ (l : List ℕ). take headerBytes b ++ ((l ++ z) ++ drop n b)) (drop-drop (at - headerBytes) headerBytes w ∙ ap (λ (k : ℕ). drop k w) place)
       ∙ regroup (take headerBytes b) (drop at w) z (drop n b)
       ∙ ap (λ (l : List ℕ). (l ++ drop at w) ++ (z ++ drop n b)) (sym (take-take headerBytes n b (omega arith)))
 
   spare-length : length (spare b n at) ≡ (at - headerBytes) + (length b - n)
   spare-length =
-      length-append (replicate (min (at - headerBytes) (length (drop headerBytes (take n b)))) 0) (drop n b)
+      let rest = drop headerBytes (take n b) in
+      length-append (drop (length rest - (at - headerBytes)) rest) (drop n b)
       ∙ omega
-      (arith, length-replicate {A = ℕ} (min (at - headerBytes) (length (drop headerBytes (take n b)))) 0, length-drop n b, length-drop headerBytes (take n b), window-length)
+      (arith, length-drop (length rest - (at - headerBytes)) rest, length-drop n b, length-drop headerBytes (take n b), window-length)
 
 -- ---- a record cut to its first bytes
 

@@ -9,7 +9,7 @@ use lib.ListN.{length, getD, take, drop, length-drop}
 use lib.Seq.{sets, sets-eq, take-all}
 use borrow.Rule.Slice.PartMut.{postOf, post-is}
 use borrow.Author.Tests.{le-ltb, lt-ltb, le-leb, lt-leb}
-use Rattle.spans.specs.Spans.{closed}
+use Rattle.spans.specs.Spans.{shifted}
 use Rattle.pcap.specs.Captures.{lowFirst, captured, recordSize}
 use Rattle.pieces.specs.Pieces.{mostReadBytes, trimmed, tooLong, keptFirst, carried}
 
@@ -53,7 +53,7 @@ kept-first b kept c many e =
     ap (λ (n : ℕ). record { have = 128; pass = n; longer = c - 88 }) less
     ∙ ap (λ (n : ℕ). record { have = 128; pass = recordSize (lowFirst b) (drop 24 b) - kept; longer = n }) shorter
 
--- the span behind the header, closed and back in the buffer
-pub carried-back : (b z : List ℕ) (have at : ℕ) → 24 ≤ at → at ≤ have → z ≡ closed (at - 24) (take (have - 24) (drop 24 b))
+-- the span behind the header, moved up and back in the buffer
+pub carried-back : (b z : List ℕ) (have at : ℕ) → 24 ≤ at → at ≤ have → z ≡ shifted (at - 24) (take (have - 24) (drop 24 b))
     → take 24 b ++ (z ++ postOf 24 (have - 24) b) ≡ carried b have at
 carried-back b z have at first order e = rw (post-is 24 have b (omega arith), e) refl

@@ -5,7 +5,7 @@ use mathlib.Core.Bool.{Bool, true, false, cond}
 use mathlib.Core.List.{List, [], _∷_, _++_}
 use lib.Dec.{eqb, leb, ltb}
 use lib.ListN.{length, getD, take, drop}
-use Rattle.spans.specs.Spans.{closed}
+use Rattle.spans.specs.Spans.{shifted}
 use Rattle.event.specs.Event.{eventBytes}
 use Rattle.pcap.specs.declared.Said.{Said}
 use Rattle.pcap.specs.declared.Said.the-variants.{Event, Skipped, Finished, Refused}
@@ -71,9 +71,9 @@ written r out = joined (r .events) ++ drop (eventBytes * length (r .events)) out
 abbrev pub mostRead : ℕ
 mostRead = 88
 
--- the window, once it is read up to a place: what is behind that moves up to the header. The zeros that come in behind belong to nothing
+-- the window, once it is read up to a place: what is behind that moves up to the header. What then stands behind belongs to nothing
 abbrev pub carried : List ℕ → ℕ → ℕ → List ℕ
-carried b have at = take headerBytes b ++ (closed (at - headerBytes) (take (have - headerBytes) (drop headerBytes b)) ++ drop have b)
+carried b have at = take headerBytes b ++ (shifted (at - headerBytes) (take (have - headerBytes) (drop headerBytes b)) ++ drop have b)
 
 -- "a packet longer than a buffer is read by its first bytes and the rest passed over": a record that the buffer has no room for, and whose
 -- first bytes are there, becomes one of those bytes alone

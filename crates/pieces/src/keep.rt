@@ -27,7 +27,7 @@ pub fn settle(buffer: &mut [u8], have: usize, at: usize) -> Kept
     if buffer.len() < have {
         return kept_all(have);
     }
-    spans::close(&mut buffer[HEADER_BYTES..have], at - HEADER_BYTES);
+    spans::shift(&mut buffer[HEADER_BYTES..have], at - HEADER_BYTES);
     trim(buffer, have - at)
 }
 

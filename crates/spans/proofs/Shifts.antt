@@ -8,7 +8,7 @@ use native.Mathlib.Omega.{arith}
 use lib.ListN.{length, getD, take, drop, set, replicate, length-drop, length-append, drop-of-length-le}
 use lib.Seq.{getD-drop, getD-append-add, length-take-le, take-at, drop-length}
 use borrow.Rule.Slice.PartMut.{midOf, postOf, putMid, mid-len, post-is}
-use Rattle.spans.specs.Spans.{closed}
+use Rattle.spans.specs.Spans.{closed, shifted}
 
 -- a store takes a copy of the first i elements to a copy of one more
 store : (from onto : List ℕ) (i : ℕ) → i < length from → i < length onto
@@ -57,3 +57,8 @@ pub close-all : (s z : List ℕ) (k : ℕ) → length s ≤ k → z ≡ replicat
 close-all s z k h e =
     let n : min k (length s) ≡ length s = omega arith in
     rw (drop-of-length-le s {i = k} h, n) e
+
+-- a gap as long as the span or longer: nothing moves
+pub shift-none : (s : List ℕ) (k : ℕ) → length s < k → s ≡ shifted k s
+shift-none s k over =
+    let none : length s - k ≡ 0 = omega arith in rw (drop-of-length-le s {i = k} (omega arith), none) refl

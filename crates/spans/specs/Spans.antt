@@ -1,5 +1,5 @@
 -- Whole spans of bytes, as a caller lends them.
-use Prim.Native.Nat.{ℕ, min}
+use Prim.Native.Nat.{ℕ, _-_, min}
 use mathlib.Core.Bool.{Bool, true, false, cond}
 use mathlib.Core.List.{List, [], _∷_, _++_}
 use lib.Dec.{eqb}
@@ -24,3 +24,7 @@ zeroed xs = replicate (length xs) 0
 -- the gap that the first k bytes are is closed: what follows moves to the front, and as many zeros come in behind
 abbrev pub closed : ℕ → List ℕ → List ℕ
 closed k xs = drop k xs ++ replicate (min k (length xs)) 0
+
+-- what follows the first k bytes moves to the front; behind it the last k bytes stay as they are
+abbrev pub shifted : ℕ → List ℕ → List ℕ
+shifted k xs = drop k xs ++ drop (length xs - k) xs

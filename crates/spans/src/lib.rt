@@ -1,9 +1,6 @@
 // Work on whole spans of bytes: a caller lends the part of its buffer that is meant.
 ghost use mathlib.Core.Path.{_≡_};
-ghost use mathlib.Core.List.{_++_};
-ghost use Prim.Native.Nat.{_≤_, _-_};
-ghost use lib.ListN.{length, drop};
-ghost use Rattle.spans.specs.Spans.{allZero, zeroed, closed};
+ghost use Rattle.spans.specs.Spans.{allZero, zeroed, closed, shifted};
 
 // Whether every byte of a span is zero. All are read, with no early end: so they go many at a time.
 pub fn all_zero(s: &[u8]) -> bool
@@ -43,10 +40,12 @@ pub fn close(s: &mut [u8], k: usize)
 }
 
 // Moves what follows the first k bytes of a span to its front; the last k bytes stay.
-fn shift(s: &mut [u8], k: usize)
-    requires { ⌜ k ≤ length (now s) ⌝ }
-    ensures { λ _. ⌜ now (s .exit) ≡ drop k (now (s .entry)) ++ drop (length (now (s .entry)) - k) (now (s .entry)) ⌝ }
+pub fn shift(s: &mut [u8], k: usize)
+    ensures { λ _. ⌜ now (s .exit) ≡ shifted k (now (s .entry)) ⌝ }
 {
+    if s.len() < k {
+        return;
+    }
     let rest = s.len() - k;
     let mut i = 0;
     while i < rest {

@@ -5,7 +5,7 @@ use mathlib.Core.List.{_++_}
 use native.Mathlib.Omega.{arith}
 use lib.ListN.{length, drop, take, length-drop}
 use lib.Seq.{take-all}
-use Rattle.spans.proofs.Shifts.{shift-more}
+use Rattle.spans.proofs.Shifts.{shift-more, shift-none}
 use borrow.Author.Needs.{needs}
 use Rattle.spans.proofs.shift.Statement.{statement}
 use Rattle.spans.proofs.shift.Tie as tie
@@ -15,6 +15,9 @@ Inv-loop s₀ k rest i₀ s i = (i ≤ rest) × ((length s ≡ length s₀) × (
 
 abbrev μ-loop : tie.MeasureT-loop
 μ-loop s₀ k rest i₀ s i = rest - i
+
+returns : tie.Need-returns Inv-loop μ-loop
+returns c = shift-none (c .before .args .s .now) (c .before .args .k) (c .if1 .taken)
 
 sub-rest : tie.Need-sub-rest Inv-loop μ-loop
 sub-rest c = search needs
@@ -40,17 +43,17 @@ loop-less c = search needs
 loop-again : tie.Need-loop-again Inv-loop μ-loop
 loop-again c =
     let l = c .before .before in
-    let p = l .before .args in
+    let p = l .before .before .args in
     (search needs, (search needs, rw (l .loop .inv .1 .1) (shift-more (p .s .now) (p .k) (l .loop .i) (omega arith))))
 
 same-length : tie.Need-same-length Inv-loop μ-loop
 same-length c = search needs
 
-returns : tie.Need-returns Inv-loop μ-loop
-returns c =
+returns-2 : tie.Need-returns-2 Inv-loop μ-loop
+returns-2 c =
     let l = c .before in
-    let s = l .before .args .s .now in
-    let k = l .before .args .k in
+    let s = l .before .before .args .s .now in
+    let k = l .before .before .args .k in
     let e : l .loop .i ≡ length s - k = omega arith in
     let n : length (drop k s) ≤ length s - k = simp length-drop (omega arith) in
     l .loop .inv .1 .1 ∙ rw (e, take-all (length s - k) (drop k s) n)
@@ -61,6 +64,7 @@ shift-spec =
     (tie.spec
     Inv-loop
     μ-loop
+    returns
     sub-rest
     loop-holds
     add-s
@@ -70,4 +74,4 @@ shift-spec =
     loop-less
     loop-again
     same-length
-    returns)
+    returns-2)

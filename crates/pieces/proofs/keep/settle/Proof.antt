@@ -1,4 +1,4 @@
--- `settle`: places that make no sense; else the gap behind the header is closed, and a record that is too long is shortened.
+-- `settle`: places that make no sense; else what is behind moves up to the header, and a record that is too long is shortened.
 use Prim.Native.Nat.{ℕ, _+_, _-_}
 use mathlib.Core.Bool.{cond}
 use mathlib.Core.List.{List}
@@ -41,17 +41,17 @@ returns-3 c =
     let early = lt-leb (c .before .before .before .before .before .args .have) (length (c .before .before .before .before .before .args .buffer .now)) (c .before .if3 .taken) in
     (rw (a, h, early) (c .kept-all3 .ensures), rw (a, h, early) refl)
 
-sub-close : tie.Need-sub-close
-sub-close c = search needs
+sub-shift : tie.Need-sub-shift
+sub-shift c = search needs
 
-part-close-start : tie.Need-part-close-start
-part-close-start c = search needs
+part-shift-start : tie.Need-part-shift-start
+part-shift-start c = search needs
 
-part-close-end : tie.Need-part-close-end
-part-close-end c = search needs
+part-shift-end : tie.Need-part-shift-end
+part-shift-end c = search needs
 
-close-requires : tie.Need-close-requires
-close-requires c κs = search needs
+shift-requires : tie.Need-shift-requires
+shift-requires c κs = search needs
 
 trim-requires : tie.Need-trim-requires
 trim-requires c κs = search needs
@@ -68,7 +68,7 @@ returns-4 c =
     let a = le-leb 24 (p .at) first in
     let h = le-leb (p .at) (p .have) order in
     let l = le-leb (p .have) (length (p .buffer .now)) (c .before .before .before .before .before .before .before .before .if3 .left) in
-    let e = carried-back (p .buffer .now) (c .before .before .before .before .before .before .close .last .0) (p .have) (p .at) first order (c .before .before .before .before .before .before .close .ensures) in
+    let e = carried-back (p .buffer .now) (c .before .before .before .before .before .before .shift .last .0) (p .have) (p .at) first order (c .before .before .before .before .before .before .shift .ensures) in
     let t = c .before .before .trim in
     let k = p .have - p .at in (
       rw (a, h, l) (subst (λ (x : List ℕ). t .result ≡ cond (tooLong x k) (keptFirst k x) (keptAll (24 + k))) e (t .ensures .0)),
@@ -85,10 +85,10 @@ settle-spec =
     returns-2
     kept-all-requires-3
     returns-3
-    sub-close
-    part-close-start
-    part-close-end
-    close-requires
+    sub-shift
+    part-shift-start
+    part-shift-end
+    shift-requires
     trim-requires
     same-length
     returns-4)
