@@ -2,3 +2,4 @@ pub mod Files
 pub mod Readers
 pub mod ReaderCalls
 pub mod UniqueReaders
+pub mod Unique

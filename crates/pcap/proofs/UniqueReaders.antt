@@ -1,5 +1,5 @@
 -- No second answer satisfies a promise about a reader: two readers of which the contract of `open` or of `moved` holds, for the same
--- arguments, are equal; so are two answers of which that of `next` or of `read_on` holds.
+-- arguments, are equal; so are two answers of which that of `next` holds.
 use mathlib.Core.Path.{_≡_, sym, _∙_}
 use Prim.Native.Nat.{ℕ}
 use mathlib.Core.List.{List}
@@ -19,7 +19,6 @@ use Rattle.pcap.proofs.ReaderCalls.{same-reader}
 use Rattle.pcap.proofs.open as opening
 use Rattle.pcap.proofs.moved as moved
 use Rattle.pcap.proofs.next as next
-use Rattle.pcap.proofs.read_on as read-on
 
 one-reader : (x y : Reader) {b : RefT (List ℕ)} {n : ℕ} {t : Tally} → (x .bytes ≡ b) × ((x .at ≡ n) × (x .tally ≡ t))
     → (y .bytes ≡ b) × ((y .at ≡ n) × (y .tally ≡ t)) → x ≡ y
@@ -41,9 +40,6 @@ module _ {M : Type 1} (𝓤 : URA M) (H : Heap 𝓤) (A : Atoms 𝓤) (mem : Mem
   abbrev nexts : Clauses 𝓤 next.ended
   nexts = next.clauses 𝓤 H A mem run
 
-  abbrev reads-on : Clauses 𝓤 read-on.ended
-  reads-on = read-on.clauses 𝓤 H A mem run
-
   pub open-unique : (κs : _) (a : _) (x y : Reader) (e e′ : _) → ent 𝓤 (conj 𝓤 (opens κs a .ensures tt x e) (opens κs a .ensures tt y e′))
       (fact 𝓤 (x ≡ y))
   open-unique κs a x y e e′ = both-show _ _ _ (one-reader x y)
@@ -55,7 +51,3 @@ module _ {M : Type 1} (𝓤 : URA M) (H : Heap 𝓤) (A : Atoms 𝓤) (mem : Mem
   pub next-unique : (κs : _) (a : _) (x y : Step) (e e′ : _) → ent 𝓤 (conj 𝓤 (nexts κs a .ensures tt x e) (nexts κs a .ensures tt y e′))
       (fact 𝓤 (x ≡ y))
   next-unique κs a x y e e′ = both-show _ _ _ (λ p q. p ∙ sym q)
-
-  pub read-on-unique : (κs : _) (a : _) (x y : Step) (e e′ : _) → ent 𝓤 (conj 𝓤 (reads-on κs a .ensures tt x e)
-      (reads-on κs a .ensures tt y e′)) (fact 𝓤 (x ≡ y))
-  read-on-unique κs a x y e e′ = both-show _ _ _ (λ p q. p ∙ sym q)

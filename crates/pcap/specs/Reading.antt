@@ -79,3 +79,10 @@ stepAt f at s =
     cond (eqb (headerRefusal f) 0)
     (cond (ltb at (length f)) (recordAt (ethernet f) (lowFirst f) (drop at f) at s) (silent Finished at s))
     (silent (Refused (headerRefusal f)) at s)
+
+-- the refusal at a place, 0 where there is none
+unfoldable pub refusalAt : List ℕ → ℕ → ℕ
+refusalAt f at =
+    cond (eqb (headerRefusal f) 0)
+    (cond (ltb at (length f)) (cond (whole (lowFirst f) (drop at f)) 0 shortRecord) 0)
+    (headerRefusal f)

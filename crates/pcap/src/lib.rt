@@ -7,6 +7,7 @@ mod steps;
 
 pub use file::captured_length;
 pub use file::low_first;
+pub use steps::refusal_at;
 pub use steps::step_at;
 
 // What a call of the reader says: that it gives an event; that a packet was skipped, and why; that the capture has ended;
@@ -89,11 +90,4 @@ pub fn moved<'a>(reader: Reader<'a>, at: usize, tally: Tally) -> Reader<'a>
         at,
         tally,
     }
-}
-
-// The same over plain bytes and numbers, for callers that hold no reader: one is made at the place, and called.
-pub fn read_on(bytes: &[u8], at: usize, tally: Tally) -> Step
-    ensures { λ r. ⌜ r ≡ stepAt (now (bytes .entry)) at tally ⌝ }
-{
-    next(moved(open(bytes, tally), at, tally))
 }

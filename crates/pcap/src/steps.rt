@@ -3,7 +3,7 @@ ghost use mathlib.Core.Path.{_≡_};
 ghost use mathlib.Core.Bool.{Bool};
 ghost use Prim.Native.Nat.{_+_, _<_, _^_};
 ghost use lib.ListN.{length};
-ghost use Rattle.pcap.specs.Reading.{stepAt, recordAt, meets, silent as silent-of, gives as gives-of, withOne, withoutEnd, oneMore};
+ghost use Rattle.pcap.specs.Reading.{stepAt, refusalAt, recordAt, meets, silent as silent-of, gives as gives-of, withOne, withoutEnd, oneMore};
 ghost use Rattle.pcap.specs.Captures.{eventRecord};
 use crate::Said;
 use crate::Step;
@@ -26,6 +26,23 @@ pub fn step_at(bytes: &[u8], at: usize, tally: Tally) -> Step
     }
     let low = file::low_first(bytes);
     record_at(file::is_ethernet(low, bytes), low, &bytes[at..], at, tally)
+}
+
+// The number by which a capture is refused at a place, or 0: what a reader there would say, without its event.
+pub fn refusal_at(bytes: &[u8], at: usize) -> u8
+    ensures { λ r. ⌜ r ≡ refusalAt (now (bytes .entry)) at ⌝ }
+{
+    let refusal = file::header_refusal(bytes);
+    if refusal != 0 {
+        return refusal;
+    }
+    if at >= bytes.len() {
+        return 0;
+    }
+    if file::record_size(file::low_first(bytes), &bytes[at..]) == 0 {
+        return 22;
+    }
+    0
 }
 
 // What a packet record at a place gives, where it is whole; `bytes` begin with it.

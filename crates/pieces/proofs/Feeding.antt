@@ -3,17 +3,22 @@ use Prim.Native.Nat.{ℕ, _+_, _-_, _%_, _^_, min}
 use mathlib.Core.List.{List}
 use mathlib.Core.Path.{_≡_, refl, sym, _∙_}
 use native.Mathlib.Omega.{arith}
-use lib.Dec.{leb}
-use lib.ListN.{length, take}
+use lib.Dec.{eqb, leb, ltb}
+use lib.ListN.{length, take, drop}
 use lib.Seq.{take-all}
 use borrow.Author.Tests.{leb-true, leb-false}
 use Rattle.sets.proofs.Cases.{both}
+use Rattle.frames.specs.declared.Outcome.{Outcome}
+use Rattle.frames.specs.Frames.{outcome, emitted}
+use Rattle.pcap.specs.declared.Tally.{Tally}
+use Rattle.pcap.specs.Captures.{headerRefusal, lowFirst, ethernet, whole, packet, recordSize}
+use Rattle.pcap.specs.Reading.{stepAt, recordAt, meets, refusalAt}
 use Rattle.pieces.specs.declared.Filled.{Filled}
 use Rattle.pieces.specs.declared.Kept.{Kept}
 use Rattle.pieces.specs.declared.Stream.{Stream}
 use Rattle.pieces.specs.declared.Advanced.{Advanced}
 use Rattle.pieces.specs.Pieces.{Ran, filledBy, settledKept}
-use Rattle.pieces.specs.Streams.{onwards}
+use Rattle.pieces.specs.Streams.{onwards, lastSaid}
 
 -- the window is read, settled, and its records counted
 pub window-answer : (b : List ℕ) (s : Stream) (r : Ran) (done : Filled) (kept : Kept) (records before : ℕ)
@@ -33,3 +38,25 @@ take-lower n m b e =
     both (leb n (length b))
     (λ t. let h : m ≡ n = omega (arith, leb-true n (length b) t) in rw h refl)
     (λ f. take-all m b (omega (arith, leb-false n (length b) f)) ∙ sym (take-all n b (omega (arith, leb-false n (length b) f))))
+
+-- a whole packet is never refused
+gives-none : (o : Outcome) (at next : ℕ) (t : Tally) → lastSaid ((meets o at next t) .said) ≡ 0
+unfolding meets
+gives-none o at next t =
+    both (eqb (o .reason) emitted)
+    (λ e. rw e (both (o .fin) (λ f. rw f (both (t .due) (λ d. rw d refl) (λ d. rw d refl))) (λ f. rw f refl)))
+    (λ e. rw e refl)
+
+-- what stands first in a window is refused by what the reader would say there
+pub said-first : (f : List ℕ) (at : ℕ) (t : Tally) → refusalAt f at ≡ lastSaid ((stepAt f at t) .said)
+unfolding refusalAt stepAt recordAt
+said-first f at t =
+    both (eqb (headerRefusal f) 0)
+    (λ h. rw h
+    (both (ltb at (length f))
+    (λ m. rw m
+    (both (whole (lowFirst f) (drop at f))
+    (λ w. rw w (sym (gives-none (outcome (ethernet f) (packet (lowFirst f) (drop at f))) at (at + recordSize (lowFirst f) (drop at f)) t)))
+    (λ w. rw w refl)))
+    (λ m. rw m refl)))
+    (λ h. rw h refl)

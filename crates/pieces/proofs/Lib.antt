@@ -2,3 +2,4 @@ pub mod Turns
 pub mod Filling
 pub mod Keeping
 pub mod Feeding
+pub mod Unique

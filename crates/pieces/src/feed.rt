@@ -6,7 +6,7 @@ ghost use Prim.Native.Nat.{_+_, _-_, _%_, _^_, _≤_, min};
 ghost use lib.Dec.{eqb};
 ghost use lib.ListN.{length};
 ghost use Rattle.pcap.specs.Captures.{headerBytes, shortRecord};
-ghost use Rattle.pieces.specs.Streams.{beginning, taken, passedBy, windowDone, passedOver, ending, lastSaid};
+ghost use Rattle.pieces.specs.Streams.{beginning, taken, passedBy, windowDone, passedOver, ending};
 use crate::Advanced;
 use crate::Ending;
 use crate::Stream;
@@ -138,9 +138,7 @@ pub fn end(buffer: &[u8], stream: Stream) -> Ending
     ensures { λ r. ⌜ r ≡ ending (now (buffer .entry)) stream ⌝ }
 {
     let have = lower(stream.have, buffer.len());
-    let last = pcap::read_on(&buffer[..have], HEADER_BYTES, stream.tally);
-    let said = last.said;
-    let refusal = number(said);
+    let refusal = pcap::refusal_at(&buffer[..have], HEADER_BYTES);
     if refusal != 0 {
         return refused(refusal, stream.before);
     }
@@ -163,18 +161,6 @@ fn refused(number: u8, before: u64) -> Ending
     Ending {
         refusal: number,
         at: 0,
-    }
-}
-
-// The number of a refusal, 0 where there is none.
-fn number(said: Said) -> u8
-    ensures { λ r. ⌜ r ≡ lastSaid said ⌝ }
-{
-    match said {
-        Said::Event => 0,
-        Said::Skipped(_) => 0,
-        Said::Finished => 0,
-        Said::Refused(n) => n,
     }
 }
 

@@ -8,36 +8,31 @@ use lib.Dec.{eqb}
 use lib.ListN.{take}
 use lib.Seq.{length-take-le}
 use borrow.Author.Tests.{eq-eqb, ne-eqb}
-use Rattle.pcap.specs.declared.Step.{Step}
-use Rattle.pcap.specs.Reading.{stepAt}
+use Rattle.pcap.specs.Reading.{stepAt, refusalAt}
 use Rattle.pieces.specs.Streams.{ending, lastSaid}
-use Rattle.pieces.proofs.Feeding.{take-lower}
+use Rattle.pieces.proofs.Feeding.{take-lower, said-first}
 use borrow.Author.Needs.{needs}
 use Rattle.pieces.proofs.feed.end.Statement.{statement}
 use Rattle.pieces.proofs.feed.end.Tie as tie
 
 -- what stands first in the window
-abbrev first : (c : tie.After-number) → ℕ
-first c = lastSaid ((stepAt (take (c .before .before .before .before .before .args .stream .have) (c .before .before .before .before .before .args .buffer .now)) 24 (c .before .before .before .before .before .args .stream .tally)) .said)
+abbrev first : (c : tie.After-refusal-at) → ℕ
+first c = lastSaid ((stepAt (take (c .before .before .before .before .args .stream .have) (c .before .before .before .before .args .buffer .now)) 24 (c .before .before .before .before .args .stream .tally)) .said)
 
-first-is : (c : tie.After-number) → c .number .result ≡ first c
+first-is : (c : tie.After-refusal-at) → c .refusal-at .result ≡ first c
 first-is c =
-    let p = c .before .before .before .before .before .args in
-    let w = take-lower (p .stream .have) (c .before .before .before .lower .result) (p .buffer .now) (c .before .before .before .lower .ensures) in
-    c .number .ensures
-    ∙ ap (λ (q : Step). lastSaid (q .said)) (c .before .read-on .ensures ∙ ap (λ (l : List ℕ). stepAt l 24 (p .stream .tally)) w)
+    let p = c .before .before .before .before .args in
+    let w = take-lower (p .stream .have) (c .before .before .lower .result) (p .buffer .now) (c .before .before .lower .ensures) in
+    c .refusal-at .ensures ∙ ap (λ (l : List ℕ). refusalAt l 24) w ∙ said-first (take (p .stream .have) (p .buffer .now)) 24 (p .stream .tally)
 
 lower-requires : tie.Need-lower-requires
 lower-requires c κs = search needs
 
-slice-aggregate-read-on : tie.Need-slice-aggregate-read-on
-slice-aggregate-read-on c = sym (length-take-le (c .before .lower .result) (c .before .before .before .args .buffer .now) (omega (arith, c .before .lower .ensures)))
+slice-aggregate-refusal-at : tie.Need-slice-aggregate-refusal-at
+slice-aggregate-refusal-at c = sym (length-take-le (c .before .lower .result) (c .before .before .before .args .buffer .now) (omega (arith, c .before .lower .ensures)))
 
-read-on-requires : tie.Need-read-on-requires
-read-on-requires c κs = search needs
-
-number-requires : tie.Need-number-requires
-number-requires c κs = search needs
+refusal-at-requires : tie.Need-refusal-at-requires
+refusal-at-requires c κs = search needs
 
 refused-requires : tie.Need-refused-requires
 refused-requires c κs = search needs
@@ -48,7 +43,7 @@ returns c =
     let n = c .before .before in
     rw (ne-eqb (first n) 0 (λ e. c .before .if1 .taken (first-is n ∙ e)))
     (c .refused .ensures
-    ∙ ap (λ (k : ℕ). record { refusal = k; at = cond (eqb k 22) ((c .before .before .before .before .before .before .before .args .stream .before + 24) % 2 ^ 64) 0 }) (first-is n))
+    ∙ ap (λ (k : ℕ). record { refusal = k; at = cond (eqb k 22) ((c .before .before .before .before .before .before .args .stream .before + 24) % 2 ^ 64) 0 }) (first-is n))
 
 refused-requires-2 : tie.Need-refused-requires-2
 refused-requires-2 c κs = search needs
@@ -57,7 +52,7 @@ returns-2 : tie.Need-returns-2
 unfolding ending
 returns-2 c =
     let n = c .before .before .before .before in
-    rw (eq-eqb (first n) 0 (sym (first-is n) ∙ c .before .before .before .if1 .left), ne-eqb (c .before .before .before .before .before .before .before .before .before .args .stream .pass) 0 (c .before .if2 .taken)) (c .refused2 .ensures)
+    rw (eq-eqb (first n) 0 (sym (first-is n) ∙ c .before .before .before .if1 .left), ne-eqb (c .before .before .before .before .before .before .before .before .args .stream .pass) 0 (c .before .if2 .taken)) (c .refused2 .ensures)
 
 refused-requires-3 : tie.Need-refused-requires-3
 refused-requires-3 c κs = search needs
@@ -66,16 +61,15 @@ returns-3 : tie.Need-returns-3
 unfolding ending
 returns-3 c =
     let n = c .before .before .before .before in
-    rw (eq-eqb (first n) 0 (sym (first-is n) ∙ c .before .before .before .if1 .left), eq-eqb (c .before .before .before .before .before .before .before .before .before .args .stream .pass) 0 (c .before .if2 .left)) (c .refused3 .ensures)
+    rw (eq-eqb (first n) 0 (sym (first-is n) ∙ c .before .before .before .if1 .left), eq-eqb (c .before .before .before .before .before .before .before .before .args .stream .pass) 0 (c .before .if2 .left)) (c .refused3 .ensures)
 
 pub end-spec : {M : Type 1} → statement M
 end-spec =
     tie.close
     (tie.spec
     lower-requires
-    slice-aggregate-read-on
-    read-on-requires
-    number-requires
+    slice-aggregate-refusal-at
+    refusal-at-requires
     refused-requires
     returns
     refused-requires-2
