@@ -9,9 +9,10 @@ use prog.Memory.{Memory}
 use prog.Routine.{Routine}
 use prog.Wp.{Heap}
 use ghost.Atoms.{Atoms}
-use contract.Monad.{Fun, conj, conjL, conjR, fact, factI, fact-use}
+use contract.Monad.{Fun, conj, fact}
 use denote.Ref.{RefT}
 use denote.Triple.Clauses.{Clauses}
+use Rattle.walks.proofs.Facts.{follows}
 use Rattle.pcap.specs.declared.Reader.{Reader}
 use Rattle.pcap.specs.declared.Step.{Step}
 use Rattle.pcap.specs.declared.Tally.{Tally}
@@ -25,12 +26,6 @@ one-reader : (x y : Reader) {b : RefT (List ℕ)} {n : ℕ} {t : Tally} → (x .
 one-reader x y p q = same-reader x y (p .0 ∙ sym (q .0), (p .1 .0 ∙ sym (q .1 .0), p .1 .1 ∙ sym (q .1 .1)))
 
 module _ {M : Type 1} (𝓤 : URA M) (H : Heap 𝓤) (A : Atoms 𝓤) (mem : Memory → SProp 𝓤) (run : Routine → Fun 𝓤) where
-  -- two facts, as assertions, show what they show as facts
-  both-show : (P Q R : Type 0) → (P → Q → R) → ent 𝓤 (conj 𝓤 (fact 𝓤 P) (fact 𝓤 Q)) (fact 𝓤 R)
-  both-show P Q R f =
-      fact-use 𝓤 P (conjL 𝓤 (fact 𝓤 P) (fact 𝓤 Q)) (λ p.
-      fact-use 𝓤 Q (conjR 𝓤 (fact 𝓤 P) (fact 𝓤 Q)) (λ q. factI 𝓤 R (conj 𝓤 (fact 𝓤 P) (fact 𝓤 Q)) (f p q)))
-
   abbrev opens : Clauses 𝓤 opening.ended
   opens = opening.clauses 𝓤 H A mem run
 
@@ -42,12 +37,12 @@ module _ {M : Type 1} (𝓤 : URA M) (H : Heap 𝓤) (A : Atoms 𝓤) (mem : Mem
 
   pub open-unique : (κs : _) (a : _) (x y : Reader) (e e′ : _) → ent 𝓤 (conj 𝓤 (opens κs a .ensures tt x e) (opens κs a .ensures tt y e′))
       (fact 𝓤 (x ≡ y))
-  open-unique κs a x y e e′ = both-show _ _ _ (one-reader x y)
+  open-unique κs a x y e e′ = follows 𝓤 _ _ _ (one-reader x y)
 
   pub moved-unique : (κs : _) (a : _) (x y : Reader) (e e′ : _) → ent 𝓤 (conj 𝓤 (moves κs a .ensures tt x e) (moves κs a .ensures tt y e′))
       (fact 𝓤 (x ≡ y))
-  moved-unique κs a x y e e′ = both-show _ _ _ (one-reader x y)
+  moved-unique κs a x y e e′ = follows 𝓤 _ _ _ (one-reader x y)
 
   pub next-unique : (κs : _) (a : _) (x y : Step) (e e′ : _) → ent 𝓤 (conj 𝓤 (nexts κs a .ensures tt x e) (nexts κs a .ensures tt y e′))
       (fact 𝓤 (x ≡ y))
-  next-unique κs a x y e e′ = both-show _ _ _ (λ p q. p ∙ sym q)
+  next-unique κs a x y e e′ = follows 𝓤 _ _ _ (λ p q. p ∙ sym q)

@@ -3,3 +3,4 @@ pub mod Filling
 pub mod Keeping
 pub mod Feeding
 pub mod Unique
+pub mod UniqueFilling

@@ -7,20 +7,15 @@ use prog.Memory.{Memory}
 use prog.Routine.{Routine}
 use prog.Wp.{Heap}
 use ghost.Atoms.{Atoms}
-use contract.Monad.{Fun, conj, conjL, conjR, fact, factI, fact-use}
+use contract.Monad.{Fun, conj, fact}
 use denote.Ref.{now}
 use denote.Triple.Clauses.{Clauses}
+use Rattle.walks.proofs.Facts.{follows}
 use Rattle.ring.specs.declared.Entry.{Entry}
 use Rattle.ring.proofs.read as read
 use Rattle.ring.proofs.draw as draw
 
 module _ {M : Type 1} (𝓤 : URA M) (H : Heap 𝓤) (A : Atoms 𝓤) (mem : Memory → SProp 𝓤) (run : Routine → Fun 𝓤) where
-  -- where two facts give a third, so do they as assertions
-  follows : (P Q R : Type 0) → (P → Q → R) → ent 𝓤 (conj 𝓤 (fact 𝓤 P) (fact 𝓤 Q)) (fact 𝓤 R)
-  follows P Q R f =
-      fact-use 𝓤 P (conjL 𝓤 (fact 𝓤 P) (fact 𝓤 Q)) (λ p.
-      fact-use 𝓤 Q (conjR 𝓤 (fact 𝓤 P) (fact 𝓤 Q)) (λ q. factI 𝓤 R (conj 𝓤 (fact 𝓤 P) (fact 𝓤 Q)) (f p q)))
-
   abbrev reads : Clauses 𝓤 read.ended
   reads = read.clauses 𝓤 H A mem run
 
@@ -28,7 +23,7 @@ module _ {M : Type 1} (𝓤 : URA M) (H : Heap 𝓤) (A : Atoms 𝓤) (mem : Mem
   draws = draw.clauses 𝓤 H A mem run
 
   pub read-unique : (κs : _) (a : _) (x y : Entry) (e e′ : _) → ent 𝓤 (conj 𝓤 (reads κs a .ensures tt x e) (reads κs a .ensures tt y e′)) (fact 𝓤 (x ≡ y))
-  read-unique κs a x y e e′ = follows _ _ _ (λ p q. p ∙ sym q)
+  read-unique κs a x y e e′ = follows 𝓤 _ _ _ (λ p q. p ∙ sym q)
 
   pub draw-unique : (κs : _) (a : _) (x y : _) (e e′ : _) → ent 𝓤 (conj 𝓤 (draws κs a .ensures tt x e) (draws κs a .ensures tt y e′)) (fact 𝓤 (now (e .0) ≡ now (e′ .0)))
-  draw-unique κs a x y e e′ = follows _ _ _ (λ p q. p ∙ sym q)
+  draw-unique κs a x y e e′ = follows 𝓤 _ _ _ (λ p q. p ∙ sym q)

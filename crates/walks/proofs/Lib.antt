@@ -1,3 +1,4 @@
 pub mod Steps
 pub mod Slices
 pub mod Loans
+pub mod Facts
