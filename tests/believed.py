@@ -1,5 +1,6 @@
 #!/usr/bin/env python3
 """What a reader of the demands has to believe: the definitions that the statements of crates/claims_demands/specs cite, and all that those cite.
+Then what a reader of request [2]'s statements, crates/claims_captures/specs, has to believe besides.
 
 Prints the lines that stand in docs/DEMANDS.md between `believed: begin` and `believed: end`; with --check compares them.
 It reads the `use` lines: a file of specs/ counts whole, a declared type is a struct or an enum of src/.
@@ -59,20 +60,24 @@ def order():
     return names.index
 
 
-def listing():
-    place = order()
-    roots = [s for s in all_specs() if s[0] == "claims_demands"]
-    files, types = closure(roots)
+def table(files, types):
+    """A row for each crate of these specs files and declared types, and their number."""
     out = ["| crate | definitions, with their lines | declared types (src) |", "|---|---|---|"]
-    for crate in sorted({c for c, _ in files} | {c for c, _ in types}, key=place):
+    for crate in sorted({c for c, _ in files} | {c for c, _ in types}, key=order()):
         mine = ", ".join(f"{m} {lines(c, m)}" for c, m in sorted(files) if c == crate)
         kinds = ", ".join(t for c, t in sorted(types) if c == crate)
         out.append(f"| `{crate}` | {mine} | {kinds} |")
-    out.append("")
-    out.append(f"{sum(lines(*f) for f in files)} lines in {len(files)} files, and {len(types)} declared types.")
-    rest = sorted((s for s in all_specs() if s not in files), key=lambda s: (place(s[0]), s[1]))
-    out.append("No statement cites: " + ", ".join(f"`{c}`'s {m} ({lines(c, m)})" for c, m in rest) + ".")
-    return out
+    return out + ["", f"{sum(lines(*f) for f in files)} lines in {len(files)} files, and {len(types)} declared types."]
+
+
+def listing():
+    place = order()
+    files, types = closure(s for s in all_specs() if s[0] == "claims_demands")
+    also, kinds = closure(s for s in all_specs() if s[0] == "claims_captures")
+    shared = ", ".join(f"`{c}`'s {m}" for c, m in sorted(files & also, key=lambda s: (place(s[0]), s[1])))
+    rest = sorted((s for s in all_specs() if s not in files | also), key=lambda s: (place(s[0]), s[1]))
+    return [*table(files, types), "", f"For captures, {shared} of these, and besides:", "", *table(also - files, kinds - types), "",
+            "No statement cites: " + ", ".join(f"`{c}`'s {m} ({lines(c, m)})" for c, m in rest) + "."]
 
 
 def main():

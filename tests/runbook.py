@@ -1,6 +1,6 @@
-"""Holds docs/OPERATORS.md to the session program: what its runbook says is run, its figures are counted again, its commands are run in sh.
+"""Holds docs/OPERATORS.md to the programs: what its runbook says is run, its figures are counted again, its commands are run in sh.
 
-    python3 tests/runbook.py PROGRAM        PROGRAM: a built session program, as target/bin/program_session
+    python3 tests/runbook.py PROGRAM        PROGRAM: a built session program, as target/bin/program_session; program_capture stands beside it
 
 Each test cites the words of the page that it speaks for, and fails also where the page no longer has them. Which mover a session's choice is comes
 from the independent model (tests/model), never from the program. The last line is "N passed, M failed". It takes seconds.
@@ -15,12 +15,14 @@ from collections import Counter, namedtuple
 HERE = os.path.dirname(os.path.abspath(__file__))
 sys.dont_write_bytecode = True       # the checkout stays as it is
 sys.path.insert(0, os.path.join(HERE, "model"))
+import capture  # noqa: E402
 import model  # noqa: E402
 import session  # noqa: E402
 import streams  # noqa: E402
 
 START = os.path.join(HERE, "..", "scripts", "start")
-PROGRAM = ""
+CAPTURES = os.path.join(HERE, "captures")
+PROGRAM = CAPTURE = ""
 with open(os.path.join(HERE, "..", "docs", "OPERATORS.md"), encoding="utf-8") as file:
     PAGE = file.read()
 
@@ -500,7 +502,7 @@ def exit_status():
 # ---- the page's own commands, in sh
 
 BLOCKS = re.findall(r"^```sh\n(.*?)^```$", PAGE, re.S | re.M)
-FUNCTIONS, EXAMPLE, PIPE, ROSTER, TAKEN_OUT = BLOCKS
+FUNCTIONS, EXAMPLE, PIPE, ROSTER, TAKEN_OUT, CAPTURED = BLOCKS
 
 
 def command(begin):
@@ -648,6 +650,108 @@ def fill_up():
             assert (size + len(got)) % 16 == 0 and 1 <= len(got) <= 16
 
 
+# ---- captures
+
+def stored(name):
+    """A file of tests/captures."""
+    with open(os.path.join(CAPTURES, name), "rb") as one:
+        return one.read()
+
+
+def captured(data, out=subprocess.PIPE):
+    """What the capture program makes of a capture: its events, and its line."""
+    done = subprocess.run([START, CAPTURE], input=data, stdout=out, stderr=subprocess.PIPE, check=True)
+    return session.split(done.stdout or b""), done.stderr.decode()
+
+
+def shown():
+    """The lines of answers that the page shows of its capture."""
+    return lines_of("\n".join(re.findall(r"^    ((?:\d+ ){6}\d+) .*127\.0\.0\.1", PAGE, re.M)))
+
+
+@says("so the movers' events come first. Without them every packet gets refusal 7", "It says of the first packet and of the first end")
+def from_a_capture():
+    events, line = captured(stored("session.pcap"))
+    assert b"".join(events) == stored("session.events") and line.encode() == stored("session.line")
+    assert {(a.kind, a.refusal, a.mark) for a in run(events)[0]} == {(1, 7, 0), (2, 0, 6)}
+    typed = CAPTURED.replace("./jet capture tests/captures/session.pcap", "'%s' '%s' <'%s/session.pcap' 2>line" % (START, CAPTURE, CAPTURES))
+    with tempfile.TemporaryDirectory() as folder:
+        assert typed.rstrip().endswith("| ./jet explain")
+        got = session.split(sh(FUNCTIONS + typed.replace("./jet explain", "cat"), folder))
+        with open(os.path.join(folder, "line"), encoding="utf-8") as told:
+            assert told.read() == line
+    assert got == roster([1], [2]) + events
+    lines = run(got)[0]
+    assert shown() == [next(a for a in lines if a.kind == kind) for kind in (1, 2)]
+
+
+@says("Each side's FIN then ends that side's key, so that no record gets its second end, and records stay half-closed",
+      "the clients' packets, and both ends under the client's key", "It counts as a new session's, and a record that it gets has no end to come")
+def client_side():
+    def turned(k):
+        return k[4:8] + k[:4] + k[10:12] + k[8:10] + k[12:]
+
+    def port(k, at):
+        return int.from_bytes(k[at:at + 2], "big")
+    typed = command("./jet capture morning.pcap | client_side").replace("./jet capture morning.pcap", "cat")
+    service = int(typed.split()[-1])
+    for name in ("session", "wire", "fragments", "big-endian-scapy"):
+        events, want = captured(stored(name + ".pcap"))[0], []
+        for event in events:
+            k = event[3:]
+            if port(k, 10) == service:
+                want.append(event)
+            elif port(k, 8) == service and event[0] == model.END:
+                want += ends([turned(k)])
+        assert want and len(want) < len(events), name
+        assert session.split(sh(FUNCTIONS + typed, HERE, b"".join(events))) == want, name
+    events = captured(stored("session.pcap"))[0]
+    movers = roster([1], [2])
+    both, one = run(movers + events)[0], run(movers + session.split(sh(FUNCTIONS + typed, HERE, b"".join(events))))[0]
+    assert 5 not in marks(both) and 8 in marks(both) and both[-1].used == 1
+    assert [m for m in marks(one) if m] == [3, 1, 1, 1, 8, 1, 5, 3] and one[-1].used == 1
+    done = subprocess.run(["sh", "-c", FUNCTIONS + "client_side 65536"], stdin=subprocess.DEVNULL, stdout=subprocess.PIPE, stderr=subprocess.PIPE)
+    assert (done.returncode, done.stdout, done.stderr) == (1, b"", b"not sent, not a port\n")
+
+
+@says("No packet is read beyond its first 88 bytes")
+def first_bytes():
+    assert set(re.findall(r"-s (\d+)", PAGE)) == {"88"}
+    for name, order in (("wire", "little"), ("short", "little"), ("big-endian", "big")):
+        data, at = stored(name + ".pcap"), 24
+        longer = first = data[:24]
+        while at < len(data):       # each packet with 200 bytes more, and of that the first 88
+            length = int.from_bytes(data[at + 8:at + 12], order)
+            packet = data[at + 16:at + 16 + length] + bytes(range(1, 201))
+            whole, cut = (data[at:at + 8] + n.to_bytes(4, order) + data[at + 12:at + 16] + packet[:n] for n in (len(packet), 88))
+            longer, first, at = longer + whole, first + cut, at + 16 + length
+        assert captured(longer) == captured(first) and len(captured(first)[0]) >= len(captured(data)[0]) > 0, name
+
+
+@says("Emitted and skipped packets together are the packets read", "All events before it are written, and stand")
+def line_of_counts():
+    told = re.findall(r"^    (\d+ packets read, .*)$", PAGE, re.M)
+    assert told == [captured(stored("wire.pcap"))[1].rstrip()]
+    assert re.findall(r"^\| ([a-zIP4 ]*) \| .* \| .* \|$", PAGE.split("first of these that applies (proved: `one-reason`)")[1], re.M)[1:6] == \
+        [name for name, _ in capture.REASONS]
+    for number, words in capture.REFUSED.items():
+        assert "| %d | %s |" % (number, words) in PAGE
+    for name, words in (("pcapng", "this is pcapng"), ("nanoseconds", "this is a nanosecond capture")):
+        line = captured(stored(name + ".pcap"))[1]
+        assert "refused by 20 at byte 0: bad magic" in line and words in line and "editcap -F pcap" in line, line
+    assert "refused by 21 at byte 0: truncated file header" in captured(b"")[1]
+    events, line = captured(stored("truncated.pcap"))
+    assert b"".join(events) == stored("truncated.events") and "refused by 22 at byte 869: truncated packet record" in line
+
+
+@says("says that standard output didn't take all events: those are lost, the counts include them")
+def lost_events():
+    if os.path.exists("/dev/full"):
+        with open("/dev/full", "wb") as out:
+            line = captured(stored("session.pcap"), out)[1]
+        assert line.startswith("11 packets read, 11 emitted;") and line.endswith("; standard output didn't take all events\n")
+
+
 @says("An alarm?")
 def links():
     heads = {re.sub("[^a-z0-9 -]", "", head.lower()).replace(" ", "-") for head in re.findall("^#+ (.*)$", PAGE, re.M)}
@@ -655,10 +759,11 @@ def links():
 
 
 def main(arguments):
-    global PROGRAM
+    global PROGRAM, CAPTURE
     if len(arguments) != 1 or not os.path.isfile(arguments[0]):
         sys.exit("usage: runbook.py PROGRAM, a built session program, as target/bin/program_session")
     PROGRAM = os.path.abspath(arguments[0])
+    CAPTURE = os.path.join(os.path.dirname(PROGRAM), "program_capture")
     failed = 0
     for test, words in TESTS:
         try:
