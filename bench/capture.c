@@ -146,6 +146,16 @@ static void finish(int refusal, uint64_t byte, const char *reason)
     exit(refusal != 0);
 }
 
+/* Names the format of a file that is no classic capture, where its first bytes tell it. */
+static const char *bad_magic(uint32_t first)
+{
+    if (first == 0x0a0d0d0a)
+        return "bad magic (this is pcapng; editcap -F pcap makes a classic capture of it)";
+    if (first == 0xa1b23c4d || first == 0x4d3cb2a1)
+        return "bad magic (this is a nanosecond capture; editcap -F pcap makes a classic one of it)";
+    return "bad magic";
+}
+
 int main(void)
 {
     bool whole = ready(FILE_HEADER);
@@ -153,7 +163,7 @@ int main(void)
         finish(SHORT_FILE_HEADER, 0, "truncated file header");
     bool highest_first = big4(input) == 0xa1b2c3d4;
     if (!highest_first && big4(input) != 0xd4c3b2a1)
-        finish(BAD_MAGIC, 0, "bad magic");
+        finish(BAD_MAGIC, 0, bad_magic(big4(input)));
     if (!whole)
         finish(SHORT_FILE_HEADER, 0, "truncated file header");
     uint32_t link_type = number(input + 20, highest_first);

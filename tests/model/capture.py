@@ -18,10 +18,14 @@ TCP, UDP = 6, 17                        # the protocols
 PACKET, END = 1, 2                      # the kinds of event
 BAD_MAGIC, SHORT_HEADER, SHORT_RECORD = 20, 21, 22
 REFUSED = {BAD_MAGIC: "bad magic", SHORT_HEADER: "truncated file header", SHORT_RECORD: "truncated packet record"}
+# What is said beside refusal 20: the format that was met, where its first bytes tell it.
+PCAPNG = " (this is pcapng; editcap -F pcap makes a classic capture of it)"
+NANOSECONDS = " (this is a nanosecond capture; editcap -F pcap makes a classic one of it)"
+FORMATS = {bytes.fromhex("0a0d0d0a"): PCAPNG, bytes.fromhex("a1b23c4d"): NANOSECONDS, bytes.fromhex("4d3cb2a1"): NANOSECONDS}
 
 # events: records of 16 bytes; read, emitted: numbers of packets; skipped: a number for each of REASONS; refusal: 0 for none; byte:
-# where the refusal stands, 0 without one
-Result = collections.namedtuple("Result", "events read emitted skipped refusal byte")
+# where the refusal stands, 0 without one; first: the first four bytes
+Result = collections.namedtuple("Result", "events read emitted skipped refusal byte first")
 
 
 # Fields of a captured packet. Each is None where one of its bytes is missing: "what is missing goes by whole fields".
@@ -165,12 +169,12 @@ def read(data):
     events, skipped, count = [], [0] * len(REASONS), 0
     refusal = header_refusal(data)
     if refusal:
-        return Result(events, 0, 0, skipped, refusal, 0)
+        return Result(events, 0, 0, skipped, refusal, 0, data[:4])
     link_type = int.from_bytes(data[20:24], byte_order(data))
     emitted = 0
     for at, captured in records(data):
         if captured is None:
-            return Result(events, count, emitted, skipped, SHORT_RECORD, at)
+            return Result(events, count, emitted, skipped, SHORT_RECORD, at, data[:4])
         count += 1
         why = reason(link_type, captured)
         if why is None:
@@ -178,7 +182,7 @@ def read(data):
             events += events_of(captured)
         else:
             skipped[why] += 1
-    return Result(events, count, emitted, skipped, 0, 0)
+    return Result(events, count, emitted, skipped, 0, 0, data[:4])
 
 
 def line(result):
@@ -187,6 +191,7 @@ def line(result):
     text = f"{result.read} packets read, {result.emitted} emitted; skipped: {told}"
     if result.refusal:
         text += f"; refused by {result.refusal} at byte {result.byte}: {REFUSED[result.refusal]}"
+        text += FORMATS.get(result.first, "") if result.refusal == BAD_MAGIC else ""
     return text + "\n"
 
 

@@ -98,6 +98,8 @@ def captures():
         # packets longer than a small buffer, of an emitted and of a skipped one, and a session's end behind them
         file_of("little", [ethernet(ipv4(UDP, udp(500, 4500, bytes(range(256))))), ethernet(bytes(140), kind=0x88CC),
                            ethernet(ipv4(TCP, tcp(9, 10, FIN, b"bye")))]),
+        # no capture: its first bytes are pcapng's, and where a packet's length would stand is a large number
+        bytes.fromhex("0a0d0d0a") + bytes(28) + b"\xff" * 4 + bytes(140),
         # what tcpdump wrote: the longest IP header, and a session's end
         piece("big-endian.pcap", lambda captured: capture.behind_ip(captured) == 74, capture.has_fin),
     ]
