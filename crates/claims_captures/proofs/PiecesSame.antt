@@ -13,8 +13,7 @@ use Rattle.sets.proofs.Cases.{both, clash}
 use Rattle.frames.specs.declared.Outcome.{Outcome}
 use Rattle.frames.specs.Frames.{outcome, emitted}
 use Rattle.pcap.specs.declared.Tally.{Tally}
-use Rattle.pcap.specs.Captures.{lowFirst, highFirst, ethernet, headerRefusal, headerBytes, recordSize, whole, packetsIn, outcomesIn, refusalIn, refusedAt, shortRecord, allEvents}
-use Rattle.pcap.specs.Reading.{stepAt, meets}
+use Rattle.pcap.specs.Captures.{lowFirst, highFirst, ethernet, headerRefusal, headerBytes, recordSize, whole, packetsIn, outcomesIn, refusalIn, refusedAt, shortRecord, allEvents, stepAt, meets}
 use Rattle.pieces.specs.declared.Stream.{Stream}
 use Rattle.pieces.specs.Pieces.{joined}
 use Rattle.pieces.specs.Streams.{beginning, lastSaid, lastRefusal, ending}

@@ -15,8 +15,7 @@ use Rattle.frames.specs.declared.Outcome.{Outcome}
 use Rattle.frames.specs.Frames.{outcome, emitted}
 use Rattle.pcap.specs.declared.Said.the-variants.{Event, Skipped, Finished, Refused}
 use Rattle.pcap.specs.declared.Tally.{Tally}
-use Rattle.pcap.specs.Captures.{lowFirst, ethernet, headerRefusal, headerBytes, whole, recordSize, packet, behind, packets, eventRecord, eventsOf, allEvents, counted, readIn, outcomesIn, refusalIn, shortRecord}
-use Rattle.pcap.specs.Reading.{nothing, stepAt, recordAt, meets, silent, withOne}
+use Rattle.pcap.specs.Captures.{lowFirst, ethernet, headerRefusal, headerBytes, whole, recordSize, packet, behind, packets, eventRecord, eventsOf, allEvents, counted, readIn, outcomesIn, refusalIn, shortRecord, nothing, stepAt, recordAt, meets, silent, withOne}
 use Rattle.pieces.specs.Pieces.{Ran, stopped, withEvent, readOn, enough}
 use Rattle.pieces.proofs.Turns.{turn, whole-behind}
 use Rattle.claims_captures.proofs.Records.{few-whole, packetsOf, leftOf, packets-first, left-first, packets-none, left-all, behind-length}

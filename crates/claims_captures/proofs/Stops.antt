@@ -10,7 +10,7 @@ use lib.Seq.{take-append-seam, take-all}
 use Rattle.pcap.specs.declared.Said.{Said}
 use Rattle.pcap.specs.declared.Said.the-variants.{Event, Skipped, Finished, Refused}
 use Rattle.pcap.specs.declared.Tally.{Tally}
-use Rattle.pcap.specs.Reading.{stepAt}
+use Rattle.pcap.specs.Captures.{stepAt}
 use Rattle.pieces.specs.Pieces.{Ran, stopped, withEvent, bySaid, readOn, enough}
 use Rattle.pieces.proofs.Turns.{goesOn as nears, ahead, moves-on, calls-enough, enough-ahead}
 use Rattle.claims_captures.specs.Captured.{goesOn, continued, ReadingOn, MovesOn}

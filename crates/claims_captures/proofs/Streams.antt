@@ -13,8 +13,7 @@ use Rattle.event.specs.Event.{eventBytes}
 use Rattle.frames.specs.declared.Outcome.{Outcome}
 use Rattle.pcap.specs.declared.Said.the-variants.{Refused}
 use Rattle.pcap.specs.declared.Tally.{Tally}
-use Rattle.pcap.specs.Captures.{lowFirst, headerRefusal, headerBytes, captured, packetsIn, outcomesIn, allEvents, refusedAt}
-use Rattle.pcap.specs.Reading.{nothing}
+use Rattle.pcap.specs.Captures.{lowFirst, headerRefusal, headerBytes, captured, packetsIn, outcomesIn, allEvents, refusedAt, nothing}
 use Rattle.pieces.specs.declared.Kept.{Kept}
 use Rattle.pieces.specs.declared.Stream.{Stream}
 use Rattle.pieces.specs.Pieces.{Ran, stopped, roomFor, joined, mostRead, written, settledBuffer, settledKept}

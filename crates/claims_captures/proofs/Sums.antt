@@ -9,8 +9,7 @@ use lib.ListN.{length}
 use Rattle.sets.proofs.Cases.{both}
 use Rattle.frames.specs.declared.Outcome.{Outcome}
 use Rattle.pcap.specs.declared.Tally.{Tally}
-use Rattle.pcap.specs.Captures.{counted}
-use Rattle.pcap.specs.Reading.{nothing, oneMore, withOne}
+use Rattle.pcap.specs.Captures.{counted, nothing, oneMore, withOne}
 use Rattle.claims_captures.specs.Captured.{sumsOf}
 
 -- the sums once packets of these outcomes are read

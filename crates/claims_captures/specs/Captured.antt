@@ -12,8 +12,7 @@ use Rattle.frames.specs.Frames.{outcome, emitted, linkType, notIPv4, fragment, 
 use Rattle.pcap.specs.declared.Said.{Said}
 use Rattle.pcap.specs.declared.Said.the-variants.{Event, Skipped, Finished, Refused}
 use Rattle.pcap.specs.declared.Tally.{Tally}
-use Rattle.pcap.specs.Captures.{headerBytes, counted, packetsIn, readIn, countedIn, outcomesIn, eventsIn, headerRefusal, refusalIn, refusedAt}
-use Rattle.pcap.specs.Reading.{nothing, stepAt}
+use Rattle.pcap.specs.Captures.{headerBytes, counted, packetsIn, readIn, countedIn, outcomesIn, eventsIn, headerRefusal, refusalIn, refusedAt, nothing, stepAt}
 use Rattle.pieces.specs.Pieces.{Ran, bySaid, readOn, enough, mostRead}
 
 -- "Every skipped packet is counted under exactly one reason": a packet's outcome is one of six numbers, and it is counted under that one

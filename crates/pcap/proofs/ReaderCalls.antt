@@ -31,7 +31,7 @@ use denote.Triple.Entry.{Args}
 use denote.Triple.Statement.{Contract, Triple}
 use denote.Triple.Spec.{tripleOf}
 use denote.Triple.Clauses.{ensured, lasts}
-use Rattle.pcap.specs.Reading.{stepAt}
+use Rattle.pcap.specs.Captures.{stepAt}
 use Rattle.pcap.specs.declared.Reader.{Reader}
 use Rattle.pcap.specs.declared.Step.{Step}
 use Rattle.pcap.specs.declared.Tally.{Tally}

@@ -1,22 +1,19 @@
--- Request [2], "Feeding in captures": what a classic capture file holds, from its bytes alone. Every list of bytes has its packets, its
--- events, its sums and its refusal.
-use Prim.Native.Nat.{ℕ, zero, suc, _+_, _-_}
+-- Request [2], "Feeding in captures": what any file of bytes holds as a classic capture, and what a reader gives at any place of it.
+use Prim.Native.Nat.{ℕ, zero, suc, _+_, _-_, _%_, _^_}
 use mathlib.Core.Bool.{Bool, true, false, cond}
 use mathlib.Core.List.{List, [], _∷_, _++_, map}
 use lib.Dec.{eqb, leb, ltb}
-use lib.ListN.{length, getD, take, drop}
+use lib.ListN.{length, getD, take, drop, replicate}
 use Rattle.bigendian.specs.BigEndian.{number4, number4At}
-use Rattle.event.specs.Event.{packetKind, endKind}
+use Rattle.event.specs.Event.{packetKind, endKind, eventBytes}
 use Rattle.frames.specs.declared.Outcome.{Outcome}
-use Rattle.frames.specs.Frames.{outcome, emitted}
+use Rattle.frames.specs.Frames.{outcome, emitted, linkType, notIPv4, fragment, otherProtocol, cutShort}
+use Rattle.pcap.specs.declared.Said.{Said}
+use Rattle.pcap.specs.declared.Said.the-variants.{Event, Skipped, Finished, Refused}
+use Rattle.pcap.specs.declared.Tally.{Tally}
+use Rattle.pcap.specs.declared.Step.{Step}
 
--- the refusals: "bad magic 20, truncated file header 21 (also under 4 bytes), truncated packet record 22, in that order"
-abbrev pub badMagic : ℕ
-badMagic = 20
-
-abbrev pub shortHeader : ℕ
-shortHeader = 21
-
+-- "truncated packet record 22"
 abbrev pub shortRecord : ℕ
 shortRecord = 22
 
@@ -38,10 +35,10 @@ lowFirst f = eqb (number4At f 0) 3569595041
 abbrev pub numberBy : Bool → List ℕ → ℕ → ℕ
 numberBy low l i = cond low (number4 (getD l (i + 3) 0) (getD l (i + 2) 0) (getD l (i + 1) 0) (getD l i 0)) (number4At l i)
 
--- the refusal of the file's header, 0 where it is sound
+-- the refusal of the file's header, 0 where it is sound: "bad magic 20, truncated file header 21 (also under 4 bytes) .., in that order"
 unfoldable pub headerRefusal : List ℕ → ℕ
 headerRefusal f =
-    cond (ltb (length f) 4) shortHeader (cond (cond (lowFirst f) true (highFirst f)) (cond (ltb (length f) headerBytes) shortHeader 0) badMagic)
+    cond (ltb (length f) 4) 21 (cond (cond (lowFirst f) true (highFirst f)) (cond (ltb (length f) headerBytes) 21 0) 20)
 
 -- the link type is the header's last number; Ethernet is 1
 unfoldable pub ethernet : List ℕ → Bool
@@ -121,3 +118,76 @@ refusalIn f = cond (eqb (headerRefusal f) 0) (cond (eqb (length (unreadIn f)) 0)
 -- the byte where the refusal stands: the first, or the truncated record's first
 unfoldable pub refusedAt : List ℕ → ℕ
 refusedAt f = cond (eqb (headerRefusal f) 0) (length f - length (unreadIn f)) 0
+
+-- "The reader stays at its place in the capture between packets, one event at a time." What it has given before it begins
+abbrev pub nothing : Tally
+nothing = record { due = false; read = 0; emitted = 0; linktype = 0; notipv4 = 0; fragment = 0; other = 0; short = 0 }
+
+-- a sum with one more where a packet has its outcome; a sum is kept in 64 bits
+abbrev pub oneMore : Bool → ℕ → ℕ
+oneMore here n = cond here ((n + 1) % 2 ^ 64) n
+
+-- the sums with one packet more, of an outcome; whether its end is still to come
+unfoldable pub withOne : ℕ → Bool → Tally → Tally
+withOne why due s =
+    record {
+      due = due;
+      read = oneMore true (s .read);
+      emitted = oneMore (eqb why emitted) (s .emitted);
+      linktype = oneMore (eqb why linkType) (s .linktype);
+      notipv4 = oneMore (eqb why notIPv4) (s .notipv4);
+      fragment = oneMore (eqb why fragment) (s .fragment);
+      other = oneMore (eqb why otherProtocol) (s .other);
+      short = oneMore (eqb why cutShort) (s .short);
+    }
+
+-- the sums as they are, and no end to come
+abbrev pub withoutEnd : Tally → Tally
+withoutEnd s =
+    record {
+      due = false;
+      read = s .read;
+      emitted = s .emitted;
+      linktype = s .linktype;
+      notipv4 = s .notipv4;
+      fragment = s .fragment;
+      other = s .other;
+      short = s .short;
+    }
+
+-- a call that gives no event
+abbrev pub silent : Said → ℕ → Tally → Step
+silent said at s = record { said = said; event = replicate eventBytes 0; at = at; tally = s }
+
+-- a call that gives one
+abbrev pub gives : ℕ → Outcome → ℕ → Tally → Step
+gives kind o at s = record { said = Event; event = eventRecord kind (o .key); at = at; tally = s }
+
+-- at a packet: one that is skipped is counted, and passed. Else it is counted and its kind 1 is given; the reader stays where a kind 2 is to
+-- follow, and gives that at the next call, without counting the packet again
+unfoldable pub meets : Outcome → ℕ → ℕ → Tally → Step
+meets o at next s =
+    cond (eqb (o .reason) emitted)
+    (cond (o .fin)
+    (cond (s .due) (gives endKind o next (withoutEnd s)) (gives packetKind o at (withOne emitted true s)))
+    (gives packetKind o next (withOne emitted false s)))
+    (silent (Skipped (o .reason)) next (withOne (o .reason) false s))
+
+-- at a packet record, where it is whole
+unfoldable pub recordAt : Bool → Bool → List ℕ → ℕ → Tally → Step
+recordAt ether low bytes at s =
+    cond (whole low bytes) (meets (outcome ether (packet low bytes)) at (at + recordSize low bytes) s) (silent (Refused shortRecord) at s)
+
+-- at a place: the header's refusal; no more bytes; or a packet record
+unfoldable pub stepAt : List ℕ → ℕ → Tally → Step
+stepAt f at s =
+    cond (eqb (headerRefusal f) 0)
+    (cond (ltb at (length f)) (recordAt (ethernet f) (lowFirst f) (drop at f) at s) (silent Finished at s))
+    (silent (Refused (headerRefusal f)) at s)
+
+-- the refusal at a place, 0 where there is none
+unfoldable pub refusalAt : List ℕ → ℕ → ℕ
+refusalAt f at =
+    cond (eqb (headerRefusal f) 0)
+    (cond (ltb at (length f)) (cond (whole (lowFirst f) (drop at f)) 0 shortRecord) 0)
+    (headerRefusal f)

@@ -1,2 +1,1 @@
 pub mod Captures
-pub mod Reading

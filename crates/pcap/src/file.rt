@@ -4,7 +4,7 @@ ghost use mathlib.Core.Bool.{cond};
 ghost use Prim.Native.Nat.{_+_, _≤_};
 ghost use lib.Dec.{ltb};
 ghost use lib.ListN.{length};
-ghost use Rattle.pcap.specs.Captures.{headerRefusal, lowFirst, numberBy, ethernet, whole, captured, recordSize, headerBytes, recordBytes, shortHeader};
+ghost use Rattle.pcap.specs.Captures.{headerRefusal, lowFirst, numberBy, ethernet, whole, captured, recordSize, headerBytes, recordBytes};
 
 // The bytes of the file's header, and of a packet record's.
 pub(crate) const HEADER_BYTES: usize = 24;
@@ -38,7 +38,7 @@ pub(crate) fn header_refusal(bytes: &[u8]) -> u8
 
 // The refusal of a header that isn't all there, or 0.
 fn short_header(bytes: &[u8]) -> u8
-    ensures { λ r. ⌜ r ≡ cond (ltb (length (now (bytes .entry))) headerBytes) shortHeader 0 ⌝ }
+    ensures { λ r. ⌜ r ≡ cond (ltb (length (now (bytes .entry))) headerBytes) 21 0 ⌝ }
 {
     if bytes.len() < HEADER_BYTES {
         return 21;

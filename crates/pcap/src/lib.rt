@@ -1,6 +1,6 @@
 // A reader of classic capture files: it stays at its place between packets, and gives one event at a time.
 ghost use mathlib.Core.Path.{_≡_};
-ghost use Rattle.pcap.specs.Reading.{stepAt, nothing as nothing-yet};
+ghost use Rattle.pcap.specs.Captures.{stepAt, nothing as nothing-yet};
 
 mod file;
 mod steps;

@@ -11,8 +11,7 @@ use Rattle.sets.proofs.Cases.{both}
 use Rattle.frames.specs.declared.Outcome.{Outcome}
 use Rattle.frames.specs.Frames.{outcome, emitted}
 use Rattle.pcap.specs.declared.Tally.{Tally}
-use Rattle.pcap.specs.Captures.{headerRefusal, lowFirst, ethernet, whole, packet, recordSize}
-use Rattle.pcap.specs.Reading.{stepAt, recordAt, meets, refusalAt}
+use Rattle.pcap.specs.Captures.{headerRefusal, lowFirst, ethernet, whole, packet, recordSize, stepAt, recordAt, meets, refusalAt}
 use Rattle.pieces.specs.declared.Filled.{Filled}
 use Rattle.pieces.specs.declared.Kept.{Kept}
 use Rattle.pieces.specs.declared.Stream.{Stream}

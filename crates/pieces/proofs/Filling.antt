@@ -14,7 +14,7 @@ use Rattle.pcap.specs.declared.Said.{Said}
 use Rattle.pcap.specs.declared.Said.the-variants.{Event, Skipped, Finished, Refused}
 use Rattle.pcap.specs.declared.Tally.{Tally}
 use Rattle.pcap.specs.declared.Step.{Step}
-use Rattle.pcap.specs.Reading.{stepAt}
+use Rattle.pcap.specs.Captures.{stepAt}
 use Rattle.pieces.specs.declared.Filled.{Filled}
 use Rattle.pieces.specs.Pieces.{Ran, stopped, withEvent, readOn, enough, roomFor, joined, filledBy, written}
 use Rattle.pieces.specs.Turns.{begun, saysMore, callsAgain, stepTaken, bufferTaken}

@@ -16,8 +16,7 @@ use Rattle.pcap.specs.declared.Said.{Said}
 use Rattle.pcap.specs.declared.Said.the-variants.{Event, Skipped, Finished, Refused}
 use Rattle.pcap.specs.declared.Tally.{Tally}
 use Rattle.pcap.specs.declared.Step.{Step}
-use Rattle.pcap.specs.Captures.{headerRefusal, lowFirst, ethernet, whole, packet, recordSize, recordBytes, shortRecord}
-use Rattle.pcap.specs.Reading.{stepAt, recordAt, withOne, meets, silent}
+use Rattle.pcap.specs.Captures.{headerRefusal, lowFirst, ethernet, whole, packet, recordSize, recordBytes, shortRecord, stepAt, recordAt, withOne, meets, silent}
 use Rattle.pieces.specs.Pieces.{Ran, stopped, withEvent, bySaid, readOn, enough}
 
 -- ---- the reader moves on

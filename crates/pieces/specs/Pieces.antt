@@ -11,8 +11,7 @@ use Rattle.pcap.specs.declared.Said.{Said}
 use Rattle.pcap.specs.declared.Said.the-variants.{Event, Skipped, Finished, Refused}
 use Rattle.pcap.specs.declared.Tally.{Tally}
 use Rattle.pcap.specs.declared.Step.{Step}
-use Rattle.pcap.specs.Captures.{lowFirst, captured, recordSize, headerBytes, recordBytes}
-use Rattle.pcap.specs.Reading.{stepAt}
+use Rattle.pcap.specs.Captures.{lowFirst, captured, recordSize, headerBytes, recordBytes, stepAt}
 use Rattle.pieces.specs.declared.Kept.{Kept}
 use Rattle.pieces.specs.declared.Filled.{Filled}
 

@@ -7,8 +7,7 @@ use lib.Dec.{eqb, leb, ltb}
 use lib.ListN.{length, take}
 use Rattle.pcap.specs.declared.Said.{Said}
 use Rattle.pcap.specs.declared.Said.the-variants.{Event, Skipped, Finished, Refused}
-use Rattle.pcap.specs.Captures.{headerBytes, shortRecord}
-use Rattle.pcap.specs.Reading.{nothing, stepAt}
+use Rattle.pcap.specs.Captures.{headerBytes, shortRecord, nothing, stepAt}
 use Rattle.pieces.specs.declared.Stream.{Stream}
 use Rattle.pieces.specs.declared.Advanced.{Advanced}
 use Rattle.pieces.specs.declared.Ending.{Ending}

@@ -33,7 +33,7 @@ use denote.Triple.Table.{entered, cited}
 use denote.Triple.Walked.{says, Stays, stay-none, walkOf, goes-none, Walks, ends-at, walked, walk-meets}
 use denote.Exit.{yes}
 use denote.Triple.Clauses.{ensured, lasts}
-use Rattle.pcap.specs.Reading.{stepAt}
+use Rattle.pcap.specs.Captures.{stepAt}
 use Rattle.pcap.specs.declared.Reader.{Reader}
 use Rattle.pcap.specs.declared.Step.{Step}
 use Rattle.pcap.proofs.Reader as T

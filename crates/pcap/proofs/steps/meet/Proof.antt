@@ -4,7 +4,7 @@ use borrow.Author.Tests.{eq-eqb, ne-eqb, not-true, not-false}
 use Rattle.pcap.proofs.Files.{at-false}
 use Rattle.event.specs.Event.{packetKind, endKind}
 use Rattle.pcap.specs.declared.Said.the-variants.{Skipped}
-use Rattle.pcap.specs.Reading.{meets, silent, gives}
+use Rattle.pcap.specs.Captures.{meets, silent, gives}
 use borrow.Author.Needs.{needs}
 use Rattle.pcap.proofs.steps.meet.Statement.{statement}
 use Rattle.pcap.proofs.steps.meet.Tie as tie

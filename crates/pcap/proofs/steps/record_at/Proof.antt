@@ -4,8 +4,7 @@ use mathlib.Core.Path.{_≡_, ap, _∙_}
 use native.Mathlib.Omega.{arith}
 use lib.ListN.{length}
 use Rattle.frames.specs.Frames.{outcome}
-use Rattle.pcap.specs.Captures.{recordSize}
-use Rattle.pcap.specs.Reading.{recordAt, meets}
+use Rattle.pcap.specs.Captures.{recordSize, recordAt, meets}
 use Rattle.pcap.proofs.Files.{size-none, size-some, size-is, packet-is, whole-there}
 use borrow.Author.Needs.{needs}
 use Rattle.pcap.proofs.steps.record_at.Statement.{statement}

@@ -6,8 +6,7 @@ use native.Mathlib.Omega.{arith}
 use lib.ListN.{length, take, drop, length-drop}
 use lib.Seq.{take-all}
 use borrow.Author.Tests.{eq-eqb, ne-eqb, le-ltb, lt-ltb}
-use Rattle.pcap.specs.Captures.{lowFirst, whole, recordSize}
-use Rattle.pcap.specs.Reading.{refusalAt}
+use Rattle.pcap.specs.Captures.{lowFirst, whole, recordSize, refusalAt}
 use Rattle.pcap.proofs.Files.{size-none, size-some}
 use borrow.Author.Needs.{needs}
 use Rattle.pcap.proofs.steps.refusal_at.Statement.{statement}

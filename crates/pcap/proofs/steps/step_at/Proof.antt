@@ -6,8 +6,7 @@ use lib.Seq.{take-all}
 use native.Mathlib.Omega.{arith}
 use borrow.Author.Tests.{eq-eqb, ne-eqb, le-ltb, lt-ltb}
 use Rattle.pcap.specs.declared.Said.the-variants.{Refused}
-use Rattle.pcap.specs.Captures.{ethernet, lowFirst}
-use Rattle.pcap.specs.Reading.{stepAt, recordAt, silent}
+use Rattle.pcap.specs.Captures.{ethernet, lowFirst, stepAt, recordAt, silent}
 use Rattle.pcap.proofs.Files.{header-there}
 use borrow.Author.Needs.{needs}
 use Rattle.pcap.proofs.steps.step_at.Statement.{statement}

@@ -1,6 +1,6 @@
 -- `with_one`: seven sums, each by `one_more`.
 use mathlib.Core.Path.{refl}
-use Rattle.pcap.specs.Reading.{withOne}
+use Rattle.pcap.specs.Captures.{withOne}
 use borrow.Author.Needs.{needs}
 use Rattle.pcap.proofs.steps.with_one.Statement.{statement}
 use Rattle.pcap.proofs.steps.with_one.Tie as tie

@@ -8,7 +8,7 @@ use lib.Dec.{eqb}
 use lib.ListN.{take}
 use lib.Seq.{length-take-le}
 use borrow.Author.Tests.{eq-eqb, ne-eqb}
-use Rattle.pcap.specs.Reading.{stepAt, refusalAt}
+use Rattle.pcap.specs.Captures.{stepAt, refusalAt}
 use Rattle.pieces.specs.Streams.{ending, lastSaid}
 use Rattle.pieces.proofs.Feeding.{take-lower, said-first}
 use borrow.Author.Needs.{needs}

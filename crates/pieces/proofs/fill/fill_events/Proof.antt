@@ -44,7 +44,7 @@ use denote.Exit.{yes}
 use Rattle.walks.proofs.Slices.{ref, sval, Mut, recount}
 use Rattle.walks.proofs.Loans.{lend-mut, back-mut}
 use Rattle.walks.proofs.Steps.{bare, here, local, rest, free, has, locals, free-all}
-use Rattle.pcap.specs.Reading.{stepAt}
+use Rattle.pcap.specs.Captures.{stepAt}
 use Rattle.pcap.specs.declared.Reader.{Reader}
 use Rattle.pcap.specs.declared.Step.{Step}
 use Rattle.pcap.specs.declared.Tally.{Tally}
