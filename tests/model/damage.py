@@ -6,8 +6,8 @@
 Input: for each capture its length in 4 bytes, the highest first, and its bytes. What has to be printed for each capture, in decimal:
 
     whole NUMBERS                  what the capture comes to
-    prefix K NUMBERS               what its first K bytes come to, for every K from 0 to its length
-    changed I DIGEST               for every byte I: all 255 other values of it, one after the other, folded into one digest
+    prefix K NUMBERS               what its first K bytes come to, for every K from 0 to its length (of a capture of at most SMALL bytes)
+    changed I DIGEST               for every byte I: all 255 other values of it, one after the other, folded into one digest (the same)
     pieces B ways W                for every buffer length B: handed over in W ways in pieces, and each came to what the whole does
 
 NUMBERS: packets read, packets emitted, skipped by each of the five reasons, the refusal, its byte, the digest of the event bytes.
@@ -23,6 +23,7 @@ import capture
 CAPTURES = os.path.join(os.path.dirname(os.path.dirname(os.path.abspath(__file__))), "captures")
 BUFFERS = (129, 150, 400)
 TWO_CUTS = 240
+SMALL = 600
 OFFSET, PRIME, BELOW = 2166136261, 16777619, 2**32 - 1
 FIN, SYN, ACK = 1, 2, 16
 TCP, UDP = 6, 17
@@ -149,20 +150,30 @@ def ways(length):
 def lines(data):
     """What has to be printed for one capture."""
     yield ["whole", *numbers(data)]
-    for length in range(len(data) + 1):
-        yield ["prefix", length, *numbers(data[:length])]
-    for place in range(len(data)):
-        yield ["changed", place, changed(data, place)]
+    if len(data) <= SMALL:
+        for length in range(len(data) + 1):
+            yield ["prefix", length, *numbers(data[:length])]
+        for place in range(len(data)):
+            yield ["changed", place, changed(data, place)]
     for buffer in BUFFERS:
         yield ["pieces", buffer, "ways", ways(len(data))]
 
 
+def all_captures():
+    """Those above, and the captures of tests/captures as other programs wrote them."""
+    yield from captures()
+    for name in sorted(os.listdir(CAPTURES)):
+        if name.endswith(".pcap"):
+            with open(os.path.join(CAPTURES, name), "rb") as file:
+                yield file.read()
+
+
 def main(words):
     if words == ["stdin"]:
-        for data in captures():
+        for data in all_captures():
             sys.stdout.buffer.write(len(data).to_bytes(4, "big") + data)
     elif words == ["lines"]:
-        for data in captures():
+        for data in all_captures():
             for numbered in lines(data):
                 print(*numbered)
     else:

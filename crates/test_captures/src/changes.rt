@@ -3,8 +3,20 @@ use crate::numbers;
 use crate::numbers::OFFSET;
 use crate::text;
 
+// The longest capture that is cut and changed.
+const SMALL: usize = 600;
+
+// The lines for a small capture's beginnings and changed bytes.
+pub(crate) fn damaged(capture: &mut [u8], out: &mut [u8]) {
+    if capture.len() > SMALL {
+        return;
+    }
+    prefixes(capture, out);
+    changed(capture, out);
+}
+
 // A line for each beginning of a capture.
-pub(crate) fn prefixes(capture: &[u8], out: &mut [u8]) {
+fn prefixes(capture: &[u8], out: &mut [u8]) {
     let mut n = 0;
     while n <= capture.len() {
         text::start(b"prefix");
@@ -15,7 +27,7 @@ pub(crate) fn prefixes(capture: &[u8], out: &mut [u8]) {
 }
 
 // A line for each byte of a capture: all its other values, in one digest.
-pub(crate) fn changed(capture: &mut [u8], out: &mut [u8]) {
+fn changed(capture: &mut [u8], out: &mut [u8]) {
     let mut i = 0;
     while i < capture.len() {
         text::start(b"changed");

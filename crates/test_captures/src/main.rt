@@ -45,13 +45,12 @@ fn one(input: &mut [u8], at: usize, size: usize, buffer: &mut [u8], out: &mut [u
     let whole = numbers::come_to(capture, out);
     text::start(b"whole");
     numbers::print(whole);
-    changes::prefixes(capture, out);
-    changes::changed(capture, out);
+    changes::damaged(capture, out);
     handing::buffers(capture, whole, buffer, out);
 }
 
 fn main() {
-    let mut input = [0u8; 8192];
+    let mut input = [0u8; 65536];
     let mut buffer = [0u8; 2048];
     let mut out = [0u8; 16384];
     let have = io::read_full(STDIN_FILENO, &mut input);
