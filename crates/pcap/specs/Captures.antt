@@ -108,14 +108,15 @@ readIn f = length (packetsIn f)
 abbrev pub countedIn : ℕ → List ℕ → ℕ
 countedIn why f = counted why (outcomesIn f)
 
--- the refusal of a file, 0 where there is none: its header's, or 22 where bytes are left behind the last whole record
+-- the bytes behind the last whole record
 abbrev pub unreadIn : List ℕ → List ℕ
 unreadIn f = unread (length f) (lowFirst f) (drop headerBytes f)
 
+-- the refusal of a file, 0 where there is none: its header's, or 22 where bytes are left behind the last whole record
 unfoldable pub refusalIn : List ℕ → ℕ
 refusalIn f = cond (eqb (headerRefusal f) 0) (cond (eqb (length (unreadIn f)) 0) 0 shortRecord) (headerRefusal f)
 
--- the byte where the refusal stands: the first, or the truncated record's first
+-- the byte where the refusal stands: the first, or the truncated record's first; without a refusal the file's length
 unfoldable pub refusedAt : List ℕ → ℕ
 refusedAt f = cond (eqb (headerRefusal f) 0) (length f - length (unreadIn f)) 0
 

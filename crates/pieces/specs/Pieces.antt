@@ -74,8 +74,8 @@ mostRead = 88
 abbrev pub carried : List ℕ → ℕ → ℕ → List ℕ
 carried b have at = take headerBytes b ++ (shifted (at - headerBytes) (take (have - headerBytes) (drop headerBytes b)) ++ drop have b)
 
--- "a packet longer than a buffer is read by its first bytes and the rest passed over": a record that the buffer has no room for, and whose
--- first bytes are there, becomes one of those bytes alone
+-- a record that the buffer has no room for, and whose first bytes are there, becomes one of those bytes alone: the rest of the packet is
+-- passed over when it comes
 abbrev pub tooLong : List ℕ → ℕ → Bool
 tooLong b kept =
     cond (ltb kept (recordBytes + mostRead)) false (ltb (length b) (headerBytes + recordSize (lowFirst b) (drop headerBytes b)))

@@ -57,7 +57,7 @@ pub record Taken : Type 0 where
 abbrev pub takenIn : List ℕ → List ℕ → Stream → Taken
 takenIn b out s = record { buffer = b; out = out; answer = record { stream = s; filled = 0 } }
 
--- the window is read and settled; under 24 bytes there is nothing to read yet
+-- the window is read and settled
 abbrev pub windowDone : List ℕ → List ℕ → Stream → Taken
 windowDone b out s =
     let r = windowRead b out s in
@@ -67,14 +67,15 @@ windowDone b out s =
       answer = record { stream = onwards s r (settledKept b (s .have) (r .at)); filled = (filledBy r) .filled };
     }
 
--- a piece of so many bytes is taken in: of the packet that is passed over; one that goes beyond it isn't
+-- a piece of so many bytes of the packet that is passed over. One that goes beyond that packet isn't taken in
 abbrev pub passedBy : List ℕ → List ℕ → Stream → ℕ → Taken
 passedBy b out s got =
     cond (ltb got (s .pass))
     (takenIn b out (passing s got))
     (cond (ltb (s .pass) got) (takenIn b out s) (windowDone b out (passedOver s)))
 
--- or behind the window; one that doesn't fit there isn't
+-- a piece of so many bytes, of that packet or behind the window. One that doesn't fit there isn't taken in; until the header is there, nothing
+-- is read
 unfoldable pub taken : List ℕ → List ℕ → Stream → ℕ → Taken
 taken b out s got =
     cond (leb (s .have + got) (length b))

@@ -31,7 +31,10 @@ pub fn begin() -> Stream
 }
 
 // Takes in a piece of `got` bytes that stands behind the window: it belongs to the packet that is passed over, or the window
-// grows by it. Then the window is read into `out`, and what isn't done of it is kept.
+// grows by it. Then the window is read into `out`, and what isn't done of it is kept. A second buffer twice as long as the
+// first has room for all events of a window; where there was less, the stream says `Event`, and the others come with the next
+// piece. A piece that doesn't fit behind the window, or goes beyond the packet that is passed over, isn't taken: nothing
+// changes.
 pub fn advance(buffer: &mut [u8], out: &mut [u8], stream: Stream, got: usize) -> Advanced
     ensures { λ r. ⌜ r ≡ (taken (now (buffer .entry)) (now (out .entry)) stream got) .answer ⌝ }
     ensures { λ _. ⌜ now (buffer .exit) ≡ (taken (now (buffer .entry)) (now (out .entry)) stream got) .buffer ⌝ }
@@ -148,7 +151,7 @@ pub fn end(buffer: &[u8], stream: Stream) -> Ending
     refused(0, stream.before)
 }
 
-// A refusal, and where it stands.
+// A refusal, 0 for none, and where it stands.
 fn refused(number: u8, before: u64) -> Ending
     ensures { λ r. ⌜ r ≡ record { refusal = number; at = cond (eqb number shortRecord) ((before + headerBytes) % 2 ^ 64) 0 } ⌝ }
 {

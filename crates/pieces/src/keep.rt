@@ -7,13 +7,22 @@ ghost use mathlib.Core.Bool.{cond};
 ghost use Rattle.pieces.specs.Pieces.{settledBuffer, settledKept, tooLong, trimmed, mostReadBytes, keptFirst, keptAll};
 use crate::Kept;
 
+// The file's header, a packet record's, and the bytes of a packet that are ever read.
 const HEADER_BYTES: usize = 24;
 
-// A packet record of 16 bytes with the 88 bytes of the packet that are ever read.
-const MOST_READ: usize = 104;
+const RECORD_BYTES: usize = 16;
+
+const MOST_READ: usize = 88;
+
+// Where the first packet of a window begins.
+const FIRST_PACKET: usize = HEADER_BYTES + RECORD_BYTES;
+
+// What is kept of a packet record that is too long.
+const MOST_KEPT: usize = RECORD_BYTES + MOST_READ;
 
 // Keeps, of a window of `have` bytes that was read up to `at`, the header and what is behind. Of a packet that the buffer
-// has no room for only the first bytes are kept.
+// has no room for only the first bytes are kept. Places that are out of order (`at` before the header's end or behind the
+// window's, a window that ends behind the buffer) change nothing.
 pub fn settle(buffer: &mut [u8], have: usize, at: usize) -> Kept
     ensures { λ r. ⌜ r ≡ settledKept (now (buffer .entry)) have at ⌝ }
     ensures { λ _. ⌜ now (buffer .exit) ≡ settledBuffer (now (buffer .entry)) have at ⌝ }
@@ -49,19 +58,19 @@ fn trim(buffer: &mut [u8], kept: usize) -> Kept
     ensures { λ r. ⌜ r ≡ cond (tooLong (now (buffer .entry)) kept) (keptFirst kept (now (buffer .entry))) (keptAll (24 + kept)) ⌝ }
     ensures { λ _. ⌜ now (buffer .exit) ≡ cond (tooLong (now (buffer .entry)) kept) (trimmed (now (buffer .entry))) (now (buffer .entry)) ⌝ }
 {
-    if kept < MOST_READ {
+    if kept < MOST_KEPT {
         return kept_all(HEADER_BYTES + kept);
     }
     let low = pcap::low_first(buffer);
     let captured = pcap::captured_length(low, &buffer[HEADER_BYTES..]);
-    if captured <= buffer.len() - 40 {
+    if captured <= buffer.len() - FIRST_PACKET {
         return kept_all(HEADER_BYTES + kept);
     }
     put_length(buffer, low);
     Kept {
-        have: HEADER_BYTES + MOST_READ,
-        pass: captured - (kept - 16),
-        longer: captured - 88,
+        have: HEADER_BYTES + MOST_KEPT,
+        pass: captured - (kept - RECORD_BYTES),
+        longer: captured - MOST_READ,
     }
 }
 

@@ -1,5 +1,5 @@
 // The line of counts, in words, on standard error.
-use crate::Outcome;
+use crate::Progress;
 use libc::STDERR_FILENO;
 use pcap::Tally;
 use pieces::Ending;
@@ -11,14 +11,16 @@ const NANOSECONDS: u32 = 2712812621;
 
 const NANOSECONDS_LOW_FIRST: u32 = 1295823521;
 
-// Says how many packets there were, and why some were skipped; then what the capture is refused by, if it is.
-pub(crate) fn say(buffer: &[u8], done: Outcome) {
+// Says how many packets there were, and why some were skipped; then what the capture is refused by, or why nobody knows.
+pub(crate) fn say(buffer: &[u8], done: Progress) {
     let stream = done.stream;
     sums(stream.tally);
-    if done.written {
-        refused(pieces::end(buffer, stream), first_number(buffer));
-    } else {
+    if !done.written {
         text(b"; standard output didn't take all events");
+    } else if !done.read {
+        text(b"; standard input couldn't be read to its end");
+    } else {
+        refused(pieces::end(buffer, stream), first_number(buffer));
     }
     text(b"\n");
 }
@@ -34,11 +36,13 @@ fn sums(tally: Tally) {
     count(tally.short, b" cut short");
 }
 
+// A number and what follows it.
 fn count(n: u64, behind: &[u8]) {
     io::print_decimal(STDERR_FILENO, n);
     text(behind);
 }
 
+// Some words.
 fn text(bytes: &[u8]) {
     io::write_all(STDERR_FILENO, bytes);
 }
