@@ -23,7 +23,7 @@ import capture
 CAPTURES = os.path.join(os.path.dirname(os.path.dirname(os.path.abspath(__file__))), "captures")
 BUFFERS = (129, 150, 400)
 TWO_CUTS = 240
-SMALL = 600
+SMALL = 240
 OFFSET, PRIME, BELOW = 2166136261, 16777619, 2**32 - 1
 FIN, SYN, ACK = 1, 2, 16
 TCP, UDP = 6, 17

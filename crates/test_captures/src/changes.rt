@@ -4,7 +4,7 @@ use crate::numbers::OFFSET;
 use crate::text;
 
 // The longest capture that is cut and changed.
-const SMALL: usize = 600;
+const SMALL: usize = 240;
 
 // The lines for a small capture's beginnings and changed bytes.
 pub(crate) fn damaged(capture: &mut [u8], out: &mut [u8]) {
