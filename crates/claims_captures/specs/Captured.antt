@@ -14,11 +14,13 @@ use Rattle.pcap.specs.declared.Said.the-variants.{Event, Skipped, Finished, Ref
 use Rattle.pcap.specs.declared.Tally.{Tally}
 use Rattle.pcap.specs.Captures.{headerBytes, counted, packetsIn, readIn, countedIn, outcomesIn, eventsIn, headerRefusal, refusalIn, refusedAt, nothing, stepAt}
 use Rattle.pieces.specs.Pieces.{Ran, bySaid, readOn, enough, mostRead}
+use Rattle.claims_captures.specs.Reasons.{ByFirst}
 
--- "Every skipped packet is counted under exactly one reason": a packet's outcome is one of six numbers, and it is counted under that one
+-- "Every skipped packet is counted under exactly one reason, the first that applies": a packet's outcome is one of six numbers. It is that
+-- of the first reason that applies, and no other reason is the first; or 0, where none applies
 pub record OneReason (ethernet : Bool) (packet : List ℕ) : Type 0 where
   pub known : (outcome ethernet packet) .reason ≤ cutShort
-  pub once : (why : ℕ) → counted why (outcome ethernet packet ∷ []) ≡ cond (eqb ((outcome ethernet packet) .reason) why) 1 0
+  pub by-first : ByFirst ethernet packet
 
 -- "Emitted plus skipped packets equal the packets read, each sum defined from the file"
 pub record AddsUp (f : List ℕ) : Type 0 where
