@@ -1,5 +1,6 @@
 pub mod Records
 pub mod Reasons
+pub mod FirstThat
 pub mod Sums
 pub mod Files
 pub mod ReadAll

@@ -19,11 +19,11 @@ use Rattle.pieces.specs.Pieces.{joined}
 use Rattle.pieces.specs.Streams.{beginning, lastSaid, lastRefusal, ending}
 use Rattle.pieces.proofs.Turns.{whole-size}
 use Rattle.claims_captures.specs.Captured.{sumsOf}
-use Rattle.claims_captures.specs.Fed.{Arrives, Fed, begins, comes, SameAs, PiecesSame, Feeds, AnyLength}
+use Rattle.claims_captures.specs.Fed.{Arrives, Fed, begins, comes, SameAs, PiecesSame, PiecesExactly, Feeds, AnyLength}
 use Rattle.claims_captures.proofs.Records.{leftOf, size-whole, packets-first, packets-none, left-all}
-use Rattle.claims_captures.proofs.Files.{low-same, refusal-same, header-append, sound-long, packets-behind, refusal-left, refused-left, packets-bad, refusal-bad, refused-bad}
+use Rattle.claims_captures.proofs.Files.{low-same, refusal-same, header-append, sound-long, packets-behind, refusal-left, refused-left, packets-bad, refusal-bad, refused-bad, refused-within}
 use Rattle.claims_captures.proofs.Sums.{counting-sums}
-use Rattle.claims_captures.proofs.ReadAll.{step-bad, step-end, step-short, step-packet}
+use Rattle.claims_captures.proofs.ReadAll.{file-exact, step-bad, step-end, step-short, step-packet}
 use Rattle.claims_captures.proofs.Windows.{cutWindow, cut-header, cut-length, cut-captured}
 use Rattle.claims_captures.proofs.Carries.{header-now, all-now, refused-now, place-now}
 use Rattle.claims_captures.proofs.Streams.{Plain, Long, Bad, Held, plain, long, bad, Along, along}
@@ -179,7 +179,7 @@ none-held L q before b s (plain h) = h .none-whole
 none-held L q before b s (long h) = packets-behind q (h .sound) ∙ packets-none (lowFirst q) (drop headerBytes q) (long-whole L q before b s h)
 none-held L q before b s (bad h) = packets-bad q (h .bad)
 
--- there is room for the next piece
+-- there is room for at least one byte more
 short-size : (low : Bool) (bytes : List ℕ) → whole low bytes ≡ false → length bytes < recordSize low bytes
 short-size low bytes w =
     both (leb (recordSize low bytes) (length bytes)) (λ e. clash (size-whole low bytes (leb-true (recordSize low bytes) (length bytes) e)) w)
@@ -229,6 +229,21 @@ same-as L come given b s h =
 
 pub pieces-same : PiecesSame
 pieces-same L come given b s big fed = same-as L come given b s (along L big fed)
+
+-- ---- sums and place that fit
+
+refused-small : (f : List ℕ) → refusedAt f ≤ length f
+refused-small f =
+    both (eqb (headerRefusal f) 0) (λ sound. refused-within f sound) (λ refused. rw (refused-bad f refused) (omega arith))
+
+pub pieces-exactly : PiecesExactly
+pieces-exactly L come given b s big fed small =
+    let same = pieces-same L come given b s big fed in
+    let place : refusedAt come % 2 ^ 64 ≡ refusedAt come = omega (arith, refused-small come) in
+    record {
+      sums-exact = same .sums-same ∙ file-exact come small;
+      place-exact = same .place-same ∙ ap (cond (eqb (refusalIn come) 0) 0) place;
+    }
 
 -- ---- any length
 

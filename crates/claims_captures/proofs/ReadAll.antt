@@ -19,7 +19,7 @@ use Rattle.pcap.specs.Captures.{lowFirst, ethernet, headerRefusal, headerBytes,
 use Rattle.pieces.specs.Pieces.{Ran, stopped, withEvent, readOn, enough}
 use Rattle.pieces.proofs.Turns.{turn, whole-behind}
 use Rattle.claims_captures.proofs.Records.{few-whole, packetsOf, leftOf, packets-first, left-first, packets-none, left-all, behind-length}
-use Rattle.claims_captures.specs.Captured.{withEvents, sumsOf, countsOf, lastSaid, ReadsAll, Reading, OneReading, ReadingExactly}
+use Rattle.claims_captures.specs.Captured.{withEvents, sumsOf, countsOf, saidAtEnd, ReadsAll, Reading, OneReading, ReadingExactly}
 use Rattle.claims_captures.proofs.Sums.{counting, counting-sums}
 use Rattle.claims_captures.proofs.Files.{sound-long, packets-behind, refusal-left, refused-left, refusal-bad}
 
@@ -152,7 +152,7 @@ read-from (suc m) k f at t sound due within far room =
 
 -- what the reader says at the end, by the bytes left
 said-left : (left : List ℕ) (refusal : ℕ) → refusal ≡ cond (eqb (length left) 0) 0 shortRecord
-    → cond (eqb (length left) 0) Finished (Refused shortRecord) ≡ lastSaid refusal
+    → cond (eqb (length left) 0) Finished (Refused shortRecord) ≡ saidAtEnd refusal
 said-left left refusal e = both (eqb (length left) 0) (λ z. rw (e, z)) (λ z. rw (e, z))
 
 reads-sound : (f : List ℕ) → eqb (headerRefusal f) 0 ≡ true
@@ -239,7 +239,8 @@ read-few f =
     (let few = packets-few (length f) (lowFirst f) (drop headerBytes f) in omega (arith, length-drop headerBytes f)))
     (λ e. rw e (omega arith))
 
+pub file-exact : (f : List ℕ) → length f < 2 ^ 64 → sumsOf (outcomesIn f) ≡ countsOf (outcomesIn f)
+file-exact f small = sums-exact (outcomesIn f) (let few = read-few f in simp length-map (omega arith))
+
 pub reads-exactly : ReadingExactly
-reads-exactly f k small room =
-    (reads-all f k room) .sums-are
-    ∙ sums-exact (outcomesIn f) (let few = read-few f in simp length-map (omega arith))
+reads-exactly f k small room = (reads-all f k room) .sums-are ∙ file-exact f small

@@ -14,11 +14,13 @@ use Rattle.pcap.specs.declared.Said.the-variants.{Event, Skipped, Finished, Ref
 use Rattle.pcap.specs.declared.Tally.{Tally}
 use Rattle.pcap.specs.Captures.{headerBytes, counted, packetsIn, readIn, countedIn, outcomesIn, eventsIn, headerRefusal, refusalIn, refusedAt, nothing, stepAt}
 use Rattle.pieces.specs.Pieces.{Ran, bySaid, readOn, enough, mostRead}
+use Rattle.claims_captures.specs.Reasons.{ByFirst}
 
--- "Every skipped packet is counted under exactly one reason": a packet's outcome is one of six numbers, and it is counted under that one
+-- "Every skipped packet is counted under exactly one reason, the first that applies": a packet's outcome is one of six numbers. It is that
+-- of the first reason that applies, and no other reason is the first; or 0, where none applies
 pub record OneReason (ethernet : Bool) (packet : List ℕ) : Type 0 where
   pub known : (outcome ethernet packet) .reason ≤ cutShort
-  pub once : (why : ℕ) → counted why (outcome ethernet packet ∷ []) ≡ cond (eqb ((outcome ethernet packet) .reason) why) 1 0
+  pub by-first : ByFirst ethernet packet
 
 -- "Emitted plus skipped packets equal the packets read, each sum defined from the file"
 pub record AddsUp (f : List ℕ) : Type 0 where
@@ -54,9 +56,9 @@ sumsOf os =
       short = counted cutShort os % 2 ^ 64;
     }
 
--- what the reader says of a whole file: that it has ended, or its refusal
-abbrev pub lastSaid : ℕ → Said
-lastSaid refusal = cond (eqb refusal 0) Finished (Refused refusal)
+-- what the reader says last of a whole file, by the file's refusal: that it has ended, or the refusal
+abbrev pub saidAtEnd : ℕ → Said
+saidAtEnd refusal = cond (eqb refusal 0) Finished (Refused refusal)
 
 -- the reader, called from the first packet on until there is no more, gives the defined events in order, says the defined refusal (or that
 -- the capture has ended), stands where a 22 stands (or at the end; before the first packet where the header is refused), and its sums are
@@ -64,14 +66,14 @@ lastSaid refusal = cond (eqb refusal 0) Finished (Refused refusal)
 -- ended. This holds of any list of numbers, bytes or not
 pub record ReadsAll (f : List ℕ) (r : Ran) : Type 0 where
   pub events-are : r .events ≡ eventsIn f
-  pub said-is : r .said ≡ lastSaid (refusalIn f)
+  pub said-is : r .said ≡ saidAtEnd (refusalIn f)
   pub stands : r .at ≡ cond (eqb (headerRefusal f) 0) (refusedAt f) headerBytes
   pub sums-are : r .tally ≡ sumsOf (outcomesIn f)
 
 abbrev pub Reading : Type 0
 Reading = (f : List ℕ) (k : ℕ) → length (eventsIn f) < k → ReadsAll f (readOn (enough f) k f headerBytes nothing)
 
--- and nothing else can be read of a file
+-- and nothing else can be read of a file: `ReadsAll` is an equation for each of the four fields of `Ran`, so this follows from its form
 abbrev pub OneReading : Type 0
 OneReading = (f : List ℕ) (r s : Ran) → ReadsAll f r → ReadsAll f s → r ≡ s
 

@@ -1,2 +1,3 @@
+pub mod Reasons
 pub mod Captured
 pub mod Fed
