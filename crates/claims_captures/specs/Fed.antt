@@ -53,8 +53,8 @@ abbrev pub PiecesExactly : Type 0
 PiecesExactly =
     (L : ℕ) (come given b : List ℕ) (s : Stream) → 128 ≤ L → Fed L come given b s → length come < 2 ^ 64 → ExactAs come b s
 
--- so there is a way to take in a capture of any length (the proof feeds single bytes). That other ways can go on rests on `room-left`: after
--- whatever pieces, one more of at least one byte fits
+-- so there is a way to take in a capture of any length (the proof feeds single bytes). That other ways can go on rests on `room-left`:
+-- after whatever pieces, one more of at least one byte fits
 pub record Feeds (L : ℕ) (f : List ℕ) : Type 0 where
   pub given : List ℕ
   pub buffer : List ℕ

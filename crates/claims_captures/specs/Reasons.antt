@@ -69,8 +69,8 @@ pub record ByFirst (ethernet : Bool) (b : List ℕ) : Type 0 where
 abbrev pub FirstApplies : Type 0
 FirstApplies = (ethernet : Bool) (b : List ℕ) → ByFirst ethernet b
 
--- "Each TCP or UDP packet becomes kind 1; a TCP packet with FIN is followed by kind 2": an emitted packet has its own key, and an end to come
--- exactly where it is TCP with FIN; a skipped one has neither
+-- "Each TCP or UDP packet becomes kind 1; a TCP packet with FIN is followed by kind 2": an emitted packet has its own key, and an end to
+-- come exactly where it is TCP with FIN; a skipped one has neither
 pub record KeyRight (b : List ℕ) (o : Outcome) : Type 0 where
   pub emitted-key : o .reason ≡ emitted → o .key ≡ keyIn b
   pub emitted-fin : o .reason ≡ emitted → o .fin ≡ cond (isTCP b) (hasFIN b) false
