@@ -17,7 +17,7 @@ use Rattle.pcap.specs.Captures.{lowFirst, highFirst, ethernet, headerRefusal, h
 use Rattle.pieces.specs.declared.Stream.{Stream}
 use Rattle.pieces.specs.Pieces.{joined}
 use Rattle.pieces.specs.Streams.{beginning, lastSaid, lastRefusal, ending}
-use Rattle.pieces.proofs.Turns.{whole-size}
+use Rattle.pcap.proofs.Files.{whole-there}
 use Rattle.claims_captures.specs.Captured.{sumsOf}
 use Rattle.claims_captures.specs.Fed.{Arrives, Fed, begins, comes, SameAs, PiecesSame, PiecesExactly, Feeds, AnyLength}
 use Rattle.claims_captures.proofs.Records.{leftOf, size-whole, packets-first, packets-none, left-all}
@@ -134,7 +134,7 @@ module _ (L : ℕ) (q : List ℕ) (before : ℕ) (b : List ℕ) (s : Stream) (h 
   long-whole : whole (lowFirst q) (drop headerBytes q) ≡ false
   long-whole =
       both (whole (lowFirst q) (drop headerBytes q)) (λ w.
-      absurd (omega (arith, whole-size (lowFirst q) (drop headerBytes q) w, length-drop headerBytes q, h .pass-is, h .passes, h .many))) (λ w. w)
+      absurd (omega (arith, whole-there (lowFirst q) (drop headerBytes q) w, length-drop headerBytes q, h .pass-is, h .passes, h .many))) (λ w. w)
 
   cut-size : recordSize (lowFirst (cutWindow q)) (drop headerBytes (cutWindow q)) ≡ 104
   cut-size =

@@ -10,7 +10,7 @@ use lib.Seq.{take-append-le, drop-append-le, drop-drop}
 use borrow.Author.Tests.{lt-ltb, le-ltb, le-leb}
 use Rattle.sets.proofs.Cases.{both}
 use Rattle.pcap.specs.Captures.{captured, recordSize, recordBytes, packet, behind, whole, packets, unread}
-use Rattle.pieces.proofs.Turns.{whole-size}
+use Rattle.pcap.proofs.Files.{whole-there}
 
 -- ---- a whole record
 
@@ -21,7 +21,7 @@ few-whole low bytes h = rw (lt-ltb (length bytes) recordBytes h)
 
 -- a record that is whole has its header and its captured bytes
 pub whole-long : (low : Bool) (bytes : List ℕ) → whole low bytes ≡ true → recordBytes ≤ length bytes
-whole-long low bytes w = let size = whole-size low bytes w in omega arith
+whole-long low bytes w = let size = whole-there low bytes w in omega arith
 
 pub size-whole : (low : Bool) (bytes : List ℕ) → recordSize low bytes ≤ length bytes → whole low bytes ≡ true
 unfolding whole
@@ -29,7 +29,7 @@ size-whole low bytes h = rw (le-ltb (length bytes) recordBytes (omega arith), le
 
 -- what is behind it is shorter
 pub behind-length : (low : Bool) (bytes : List ℕ) → whole low bytes ≡ true → length (behind low bytes) + recordSize low bytes ≡ length bytes
-behind-length low bytes w = let size = whole-size low bytes w in rw length-drop (omega arith)
+behind-length low bytes w = let size = whole-there low bytes w in rw length-drop (omega arith)
 
 -- ---- no bound
 
@@ -114,15 +114,15 @@ module _ (low : Bool) (b g : List ℕ) (w : whole low b ≡ true) where
   pub whole-append : whole low (b ++ g) ≡ true
   whole-append =
       size-whole low (b ++ g)
-      (rw (captured-append low b g (whole-long low b w), length-append b g) (omega (arith, whole-size low b w)))
+      (rw (captured-append low b g (whole-long low b w), length-append b g) (omega (arith, whole-there low b w)))
 
   pub packet-append : packet low (b ++ g) ≡ packet low b
   packet-append =
       rw (captured-append low b g (whole-long low b w), drop-append-le recordBytes b g (whole-long low b w))
-      (take-append-le (captured low b) (drop recordBytes b) g (simp length-drop (omega (arith, whole-size low b w))))
+      (take-append-le (captured low b) (drop recordBytes b) g (simp length-drop (omega (arith, whole-there low b w))))
 
   pub behind-append : behind low (b ++ g) ≡ behind low b ++ g
-  behind-append = rw (captured-append low b g (whole-long low b w)) (drop-append-le (recordSize low b) b g (whole-size low b w))
+  behind-append = rw (captured-append low b g (whole-long low b w)) (drop-append-le (recordSize low b) b g (whole-there low b w))
 
 -- the packets of the first bytes, then those of what was left of them with the bytes that came
 pub packets-append : (n : ℕ) (low : Bool) (b g : List ℕ) → length b ≤ n

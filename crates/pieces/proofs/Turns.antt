@@ -8,7 +8,7 @@ use native.Mathlib.Nat.{not-suc-le-zero}
 use native.Mathlib.Omega.{arith}
 use lib.Dec.{eqb, ltb}
 use lib.ListN.{length, drop, length-drop}
-use borrow.Author.Tests.{ltb-true, leb-true}
+use borrow.Author.Tests.{ltb-true}
 use Rattle.sets.proofs.Cases.{both, clash}
 use Rattle.frames.specs.declared.Outcome.{Outcome}
 use Rattle.frames.specs.Frames.{outcome, emitted}
@@ -16,6 +16,7 @@ use Rattle.pcap.specs.declared.Said.{Said}
 use Rattle.pcap.specs.declared.Said.the-variants.{Event, Skipped, Finished, Refused}
 use Rattle.pcap.specs.declared.Tally.{Tally}
 use Rattle.pcap.specs.declared.Step.{Step}
+use Rattle.pcap.proofs.Files.{whole-there}
 use Rattle.pcap.specs.Captures.{headerRefusal, lowFirst, ethernet, whole, packet, recordSize, recordBytes, shortRecord, stepAt, recordAt, withOne, meets, silent}
 use Rattle.pieces.specs.Pieces.{Ran, stopped, withEvent, bySaid, readOn, enough}
 
@@ -37,15 +38,10 @@ pub record Behind (f : List ℕ) (at next : ℕ) : Type 0 where
   pub further : at < next
   pub within : next ≤ length f
 
-pub whole-size : (low : Bool) (bytes : List ℕ) → whole low bytes ≡ true → recordSize low bytes ≤ length bytes
-unfolding whole
-whole-size low bytes w =
-    both (ltb (length bytes) recordBytes) (λ e. clash (rw e at w) refl) (λ e. leb-true (recordSize low bytes) (length bytes) (rw e at w))
-
 pub whole-behind : (low : Bool) (f : List ℕ) (at : ℕ) → ltb at (length f) ≡ true → whole low (drop at f) ≡ true
     → Behind f at (at + recordSize low (drop at f))
 whole-behind low f at h w =
-    let size : recordSize low (drop at f) ≤ length f - at = rw length-drop at (whole-size low (drop at f) w) in
+    let size : recordSize low (drop at f) ≤ length f - at = rw length-drop at (whole-there low (drop at f) w) in
     record { further = omega arith; within = omega (arith, ltb-true at (length f) h) }
 
 -- a packet: either the reader goes behind it, or it stays and the packet's end is due

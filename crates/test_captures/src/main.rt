@@ -1,6 +1,6 @@
 // Test program: captures on standard input, each behind its length in four bytes. Prints what each comes to: as it is, every
 // beginning of it, with every byte changed in every way, and handed over in pieces.
-mod changes;
+mod damage;
 mod handing;
 mod numbers;
 mod text;
@@ -45,7 +45,7 @@ fn one(input: &mut [u8], at: usize, size: usize, buffer: &mut [u8], out: &mut [u
     let whole = numbers::come_to(capture, out);
     text::start(b"whole");
     numbers::print(whole);
-    changes::damaged(capture, out);
+    damage::damaged(capture, out);
     handing::buffers(capture, whole, buffer, out);
 }
 

@@ -3,8 +3,8 @@ use Prim.Native.Nat.{_-_}
 use mathlib.Core.Path.{_≡_}
 use lib.ListN.{length}
 use borrow.Author.Needs.{needs}
-use Rattle.test_captures.proofs.changes.changed.Statement.{statement}
-use Rattle.test_captures.proofs.changes.changed.Tie as tie
+use Rattle.test_captures.proofs.damage.changed.Statement.{statement}
+use Rattle.test_captures.proofs.damage.changed.Tie as tie
 
 abbrev Inv-loop : tie.InvT-loop
 Inv-loop capture₀ out₀ i₀ t4 capture out i = (length capture ≡ length capture₀) × (length out ≡ length out₀)

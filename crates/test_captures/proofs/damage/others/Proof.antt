@@ -3,8 +3,8 @@ use Prim.Native.Nat.{_-_}
 use mathlib.Core.Path.{_≡_}
 use lib.ListN.{length}
 use borrow.Author.Needs.{needs}
-use Rattle.test_captures.proofs.changes.others.Statement.{statement}
-use Rattle.test_captures.proofs.changes.others.Tie as tie
+use Rattle.test_captures.proofs.damage.others.Statement.{statement}
+use Rattle.test_captures.proofs.damage.others.Tie as tie
 
 abbrev Inv-loop : tie.InvT-loop
 Inv-loop capture₀ i out₀ h₀ old v₀ capture out h v = (length capture ≡ length capture₀) × (length out ≡ length out₀)

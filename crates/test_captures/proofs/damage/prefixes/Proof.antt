@@ -4,8 +4,8 @@ use mathlib.Core.Path.{_≡_, sym}
 use lib.ListN.{length}
 use lib.Seq.{length-take-le}
 use borrow.Author.Needs.{needs}
-use Rattle.test_captures.proofs.changes.prefixes.Statement.{statement}
-use Rattle.test_captures.proofs.changes.prefixes.Tie as tie
+use Rattle.test_captures.proofs.damage.prefixes.Statement.{statement}
+use Rattle.test_captures.proofs.damage.prefixes.Tie as tie
 
 abbrev Inv-loop : tie.InvT-loop
 Inv-loop capture out₀ n₀ t4 out n = length out ≡ length out₀
