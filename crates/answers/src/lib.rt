@@ -1,4 +1,7 @@
 // The answers that the parts of the engine give: refused, accepted, or a change taken; and a reply in numbers.
+
+#![tactic(auto)]
+
 ghost use Rattle.std.specs.Prelude.{◌≡◌, List, ℕ};
 ghost use Rattle.rules.specs.Rules.{refused as refused-by, taken as taken-by, state_with};
 ghost use Rattle.rules.specs.Answer.{answer_of};
@@ -8,7 +11,7 @@ use roster::Roster;
 use rules::Reply;
 
 // What the engine hands back: the answer, the roster afterwards, and whether the ring is drawn anew.
-#[derive(Drop)]
+#[derive(Clone, Copy)]
 pub struct Reaction {
     pub reply: Reply,
     pub roster: Roster,
@@ -53,7 +56,7 @@ pub fn taken(next: Roster, redraw: bool) -> Reaction
 }
 
 // A reply in the document's numbers: the refusal (0 where it was accepted), the server, the mark, the number of records read.
-#[derive(Drop)]
+#[derive(Clone, Copy)]
 pub struct ReplyNumbers {
     pub refusal: u8,
     pub server: u32,

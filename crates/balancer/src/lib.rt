@@ -1,4 +1,7 @@
 // The balancer: a start or an event, over the lent table, rows, flags and ring, with the roster handed in and handed back.
+
+#![tactic(auto)]
+
 ghost use Rattle.std.specs.Prelude.{◌≡◌};
 ghost use Rattle.rules.specs.Rules.{world_with, EventPromise, StartPromise};
 ghost use Rattle.engine.specs.Looking.{redrawn};

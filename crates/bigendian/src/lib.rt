@@ -1,4 +1,7 @@
 // Numbers as bytes, the highest byte first.
+
+#![tactic(auto)]
+
 ghost use Rattle.std.specs.Prelude.{◌≡◌};
 ghost use Rattle.bigendian.specs.BigEndian.{bytes4, number4, number2};
 

@@ -1,4 +1,7 @@
 // The events that change table or roster: ends, the four roster changes, configure.
+
+#![tactic(auto)]
+
 ghost use Rattle.std.specs.Prelude.{◌≡◌, List, ℕ};
 ghost use Rattle.ranking.specs.declared.Pick.{Pick};
 ghost use Rattle.event.specs.Event.{request_by};

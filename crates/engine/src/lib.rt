@@ -1,6 +1,9 @@
 // The engine: what an event does to the lent table, rows and flags and to the roster. It never sees the
 // ring: `look` says what is to be read from it, `react` is handed the entry read, and says whether
 // the ring is to be drawn anew.
+
+#![tactic(auto)]
+
 mod looking;
 
 ghost use Rattle.std.specs.Prelude.{◌≡◌, length, List, ℕ};
@@ -19,7 +22,7 @@ use rules::{Outcome, Reply};
 use table::Found;
 
 // What a look at an event record finds before the ring is read.
-#[derive(Drop)]
+#[derive(Clone, Copy)]
 pub struct Lookup {
     pub event: Event,
     pub found: Found,

@@ -1,4 +1,7 @@
 // An event record of bytes, taken apart.
+
+#![tactic(auto)]
+
 ghost use Rattle.std.specs.Prelude.{◌≡◌, cond, eqb, length, drop};
 ghost use Rattle.bigendian.specs.BigEndian.{number4_at};
 ghost use Rattle.spans.specs.Spans.{all_zero};
@@ -25,7 +28,7 @@ pub const REMOVE_HORIZON: u8 = 6;
 pub const CONFIGURE: u8 = 7;
 
 // What an event asks, or the number by which it is refused.
-#[derive(Drop)]
+#[derive(Clone, Copy)]
 pub enum Ask {
     Packet,
     End,
@@ -38,7 +41,7 @@ pub enum Ask {
 }
 
 // An event: what it asks, and for a packet or an end the key, which is the whole body (else zeros).
-#[derive(Drop)]
+#[derive(Clone, Copy)]
 pub struct Event {
     pub ask: Ask,
     pub key: [u8; BODY_BYTES],

@@ -1,4 +1,7 @@
 // One captured packet: whether it becomes events, for which key, or why it is skipped.
+
+#![tactic(auto)]
+
 ghost use Rattle.std.specs.Prelude.{◌≡◌, ◌+◌, ◌≤◌, false, length};
 ghost use Rattle.frames.specs.Frames.{outcome, of_ethernet, of_ipv4, carried, key_in, ports_at, header_words, has_fin, emitted, skipped as skipped-by};
 
@@ -27,7 +30,7 @@ const UDP: u8 = 17;
 
 // What becomes of a packet: the reason why it is skipped, or its key, and whether it is TCP's with FIN. A skipped packet
 // has a key of zeros and no FIN.
-#[derive(Drop)]
+#[derive(Clone, Copy)]
 pub struct Outcome {
     pub reason: u8,
     pub fin: bool,

@@ -1,4 +1,7 @@
 // The hashes of document 01: of bytes, of a key, of a server at a digest, and of a server on the ring.
+
+#![tactic(auto)]
+
 ghost use Rattle.std.specs.Prelude.{◌≡◌};
 ghost use Rattle.hash.specs.Hash.{stir, F, digest as digest-of, weight as weight-of, position as position-of, distance as distance-of};
 

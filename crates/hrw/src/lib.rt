@@ -1,5 +1,8 @@
 // HRW, highest random weight: the choice over the working servers at a digest, and whether a horizon
 // server outranks it. Servers and their states are lent side by side, as the roster holds them.
+
+#![tactic(auto)]
+
 ghost use Rattle.std.specs.Prelude.{◌≡◌};
 ghost use Rattle.sets.specs.Sets.{in_state, working, standby};
 ghost use Rattle.ranking.specs.Methods.{heavier, hrw};

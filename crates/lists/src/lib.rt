@@ -1,4 +1,7 @@
 // Scans and moves of lent lists of servers and of their states.
+
+#![tactic(auto)]
+
 ghost use Rattle.std.specs.Prelude.{◌≡◌, ◌∷◌, length, take};
 ghost use Rattle.spans.specs.Spans.{all_zero, closed};
 ghost use Rattle.lists.specs.Lists.{rising as rising-of, all_stated, place_in, before as Before-of};

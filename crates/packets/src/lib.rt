@@ -1,5 +1,8 @@
 // Packets: the key's record, or else what the method in force gives. The roster's two lists are copied once, in
 // `packet`, and lent from there.
+
+#![tactic(auto)]
+
 ghost use Rattle.std.specs.Prelude.{◌≡◌, true, cond, List, ℕ, eqb};
 ghost use Rattle.sets.specs.Sets.{in_state, working};
 ghost use Rattle.settings.specs.Settings.{by_row_table};

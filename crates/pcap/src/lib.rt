@@ -1,4 +1,7 @@
 // A reader of classic capture files: it stays at its place between packets, and gives one event at a time.
+
+#![tactic(auto)]
+
 ghost use Rattle.std.specs.Prelude.{◌≡◌};
 ghost use Rattle.pcap.specs.Captures.{step_at, nothing as nothing_yet};
 
@@ -10,7 +13,7 @@ pub use steps::{refusal_at, step_at};
 
 // What a call of the reader says: that it gives an event; that a packet was skipped, and why; that the capture has ended;
 // or the number by which it is refused.
-#[derive(Drop)]
+#[derive(Clone, Copy)]
 pub enum Said {
     Event,
     Skipped(u8),
@@ -20,7 +23,7 @@ pub enum Said {
 
 // What a reader has given so far: the packets that it read, those that became events, those that were skipped for each
 // reason. `due`: the packet at its place has FIN; its kind 1 was given, and its kind 2 is next.
-#[derive(Drop)]
+#[derive(Clone, Copy)]
 pub struct Tally {
     pub due: bool,
     pub read: u64,
@@ -33,7 +36,7 @@ pub struct Tally {
 }
 
 // The answer to a call: what it says, the event record (zeros where there is none), and where the reader is afterwards.
-#[derive(Drop)]
+#[derive(Clone, Copy)]
 pub struct Step {
     pub said: Said,
     pub event: [u8; 16],
@@ -42,7 +45,7 @@ pub struct Step {
 }
 
 // A reader: the capture's bytes, its place in them, and what it has given so far.
-#[derive(Drop)]
+#[derive(Clone, Copy)]
 pub struct Reader<'a> {
     pub bytes: &'a [u8],
     pub at: usize,

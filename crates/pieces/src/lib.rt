@@ -1,5 +1,8 @@
 // A capture of any length, in a buffer of one length: the buffer holds the file's header and, behind it, packet records as
 // far as they have come. Events go from there into a second buffer.
+
+#![tactic(auto)]
+
 mod feed;
 mod fill;
 mod keep;
@@ -11,7 +14,7 @@ use pcap::{Said, Tally};
 
 // Events that were put into a buffer: how many bytes they take, and where the reader stopped. It says `Event` where the
 // buffer is full: there may be more.
-#[derive(Drop)]
+#[derive(Clone, Copy)]
 pub struct Filled {
     pub said: Said,
     pub at: usize,
@@ -21,7 +24,7 @@ pub struct Filled {
 
 // What is kept of a window: its first `have` bytes. Where that is only the beginning of a packet, the next `pass` bytes of
 // the capture are the rest of it, and it is `longer` in the capture than in the window.
-#[derive(Drop)]
+#[derive(Clone, Copy)]
 pub struct Kept {
     pub have: usize,
     pub pass: usize,
@@ -32,7 +35,7 @@ pub struct Kept {
 // `said` what the reader said last: `Event` where there was no room for all events. While a packet that is too long for the
 // buffer comes in, the next `pass` bytes of the capture belong to it, and it is `longer` there than in the window. `before`
 // bytes of packet records are done.
-#[derive(Drop)]
+#[derive(Clone, Copy)]
 pub struct Stream {
     pub have: usize,
     pub pass: usize,
@@ -43,14 +46,14 @@ pub struct Stream {
 }
 
 // A stream after a piece was taken in, and how many bytes of event records stand in the second buffer.
-#[derive(Drop)]
+#[derive(Clone, Copy)]
 pub struct Advanced {
     pub stream: Stream,
     pub filled: usize,
 }
 
 // What a capture that has ended is refused by, 0 where it isn't, and the byte where the refusal stands.
-#[derive(Drop)]
+#[derive(Clone, Copy)]
 pub struct Ending {
     pub refusal: u8,
     pub at: u64,

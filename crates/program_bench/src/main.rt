@@ -4,6 +4,9 @@
 // RECORDS records are used, then PACKETS packets of those keys, then CHANGES times a server goes to work and leaves it.
 // Behind each of the three parts it prints a line: the part's name, the checksum of all replies so far, used records, keys
 // sent, replies that were refused. bench/twin.c says the same lines.
+
+#![tactic(auto)]
+
 mod keys;
 mod words;
 mod work;

@@ -5,7 +5,7 @@ use libc::STDOUT_FILENO;
 use rules::Reply;
 
 // What the program's words ask for.
-#[derive(Drop)]
+#[derive(Clone, Copy)]
 pub struct Plan {
     pub method: u64,
     pub servers: u64,
@@ -16,7 +16,7 @@ pub struct Plan {
 }
 
 // What kind of event comes next.
-#[derive(Drop)]
+#[derive(Clone, Copy)]
 pub enum Phase {
     Configuring,
     Adding,
@@ -28,7 +28,7 @@ pub enum Phase {
 }
 
 // What the replies came to: their checksum, how many recorded a session, how many were refusals.
-#[derive(Drop)]
+#[derive(Clone, Copy)]
 pub struct Tally {
     pub sum: u64,
     pub used: u64,
@@ -36,7 +36,7 @@ pub struct Tally {
 }
 
 // How far the work is: events done in this phase, the generator's number, keys sent while filling.
-#[derive(Drop)]
+#[derive(Clone, Copy)]
 pub struct Work {
     pub phase: Phase,
     pub done: u64,

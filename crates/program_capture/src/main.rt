@@ -1,5 +1,8 @@
 // The capture program: a capture on standard input becomes event records on standard output; a line on standard error says
 // how many packets there were, and why some were skipped. Memory is constant, however long the capture is.
+
+#![tactic(auto)]
+
 ghost use Rattle.std.specs.Prelude.{◌≡◌, ◌-◌, ◌≤◌};
 
 mod report;
@@ -13,7 +16,7 @@ const PIECES: u64 = 1000000000000;
 
 // How far a run is: what has come of the capture, whether standard input could be read and standard output took every event,
 // and how many pieces may still come.
-#[derive(Drop)]
+#[derive(Clone, Copy)]
 pub struct Progress {
     pub stream: Stream,
     pub read: bool,
@@ -22,7 +25,7 @@ pub struct Progress {
 }
 
 // A piece that was read: how many bytes came, 0 at the end of the input, and whether the read failed.
-#[derive(Drop)]
+#[derive(Clone, Copy)]
 pub struct Piece {
     pub got: usize,
     pub failed: bool,

@@ -5,7 +5,7 @@ use table::Found;
 
 // What a round of packets came to: sessions that found no room, sessions led elsewhere although their last mover works, and sessions
 // led elsewhere because it doesn't.
-#[derive(Drop)]
+#[derive(Clone, Copy)]
 pub struct Sent {
     pub no_room: u32,
     pub moved: u32,
@@ -13,7 +13,7 @@ pub struct Sent {
 }
 
 // Where a packet goes, and whether it should have been recorded and found no room.
-#[derive(Drop)]
+#[derive(Clone, Copy)]
 struct Led {
     server: u32,
     no_room: bool,

@@ -7,6 +7,9 @@
 //               for the one after each of 20 turns: records used, sessions that found no room, sessions led elsewhere although
 //               their mover worked, sessions whose mover had left work
 //     joins     the same, with one standby joining after the other and nobody leaving
+
+#![tactic(auto)]
+
 mod counts;
 mod door;
 mod evenness;

@@ -2,7 +2,7 @@
 use crate::keys;
 
 // A number, and where the next one starts.
-#[derive(Drop)]
+#[derive(Clone, Copy)]
 struct Next {
     number: u32,
     x: u32,

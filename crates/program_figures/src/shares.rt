@@ -2,7 +2,7 @@
 use crate::{counts, numbers, say};
 
 // The method of a line, and its row count, which is 0 but for method 3; how often numbers are drawn.
-#[derive(Drop)]
+#[derive(Clone, Copy)]
 struct How {
     method: u32,
     rows: u16,

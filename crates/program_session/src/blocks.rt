@@ -12,7 +12,7 @@ pub(crate) const LAST: u64 = 1000000000000;
 
 // A record's bytes are at..to of the buffer. Those up to end are still to be done, and the text up to `filled` is still to
 // be written. Up to `left` events are to come, this one among them: none where the input has ended.
-#[derive(Drop)]
+#[derive(Clone, Copy)]
 pub struct Place {
     pub at: usize,
     pub to: usize,

@@ -1,5 +1,8 @@
 // The session program: reads event records of 16 bytes on standard input and prints a line for each. It reads and writes
 // in large blocks: what a read returns is answered, and the answers are written, before it reads again.
+
+#![tactic(auto)]
+
 ghost use Rattle.std.specs.Prelude.{◌≤◌, length};
 
 mod blocks;

@@ -1,5 +1,8 @@
 // Which of two servers outranks the other, from what a method measured of each, and the best server so
 // far as a loop keeps it. What a choice over a set is, and its laws, are in specs/ and proofs/.
+
+#![tactic(auto)]
+
 ghost use Rattle.std.specs.Prelude.{◌≡◌};
 ghost use Rattle.ranking.specs.Best.{none_yet, kept};
 ghost use Rattle.ranking.specs.Methods.{heavier as heavier-of, nearer as nearer-of};
@@ -25,7 +28,7 @@ pub fn nearer(distance_a: u32, a: u32, distance_b: u32, b: u32) -> bool
 }
 
 // What a method gives a packet without a record: the choice over the working servers, and whether it is unsafe.
-#[derive(Drop)]
+#[derive(Clone, Copy)]
 pub struct Pick {
     pub server: u32,
     pub flag: bool,
@@ -33,7 +36,7 @@ pub struct Pick {
 
 // The highest-ranked server so far with what was measured of it (weight or distance); before the
 // first server `any` is false.
-#[derive(Drop)]
+#[derive(Clone, Copy)]
 pub struct Best {
     pub any: bool,
     pub server: u32,

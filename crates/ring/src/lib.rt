@@ -1,4 +1,7 @@
 // The ring: a lent slice of entries. Few thin functions over it; everything else works on plain numbers and on entries by value.
+
+#![tactic(auto)]
+
 ghost use Rattle.std.specs.Prelude.{◌≡◌, min};
 ghost use Rattle.ring.specs.Ring.{entry_read, overlaid};
 
@@ -7,7 +10,7 @@ pub const RING_PLACES: usize = 64;
 
 // An entry: a position, the server that a key reading it is led to, and a track flag.
 #[repr(C)]
-#[derive(Drop)]
+#[derive(Clone, Copy)]
 pub struct Entry {
     pub position: u32,
     pub server: u32,

@@ -1,4 +1,7 @@
 // The ring's entries, computed for the servers held and their states: code on plain parameters.
+
+#![tactic(auto)]
+
 ghost use Rattle.std.specs.Prelude.{◌≡◌, List, map, ℕ, ◌<◌, ◌≤◌, ◌+◌, ◌^◌, length, take, replicate};
 ghost use Rattle.hash.specs.Hash.{position as position-of, distance};
 ghost use Rattle.sets.specs.Sets.{member, in_state, working as at-work, most_servers};
@@ -53,7 +56,7 @@ fn arrange(servers: &[u32]) -> [u64; sets::MOST_SERVERS]
 }
 
 // The keys of the working servers: the first `held` of 64 places.
-#[derive(Drop)]
+#[derive(Clone, Copy)]
 struct AtWork {
     keys: [u64; sets::MOST_SERVERS],
     held: usize,

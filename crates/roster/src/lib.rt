@@ -1,4 +1,7 @@
 // The roster of servers: handed in by value, handed back changed.
+
+#![tactic(auto)]
+
 ghost use Rattle.std.specs.Prelude.{◌≡◌, min};
 ghost use Rattle.roster.specs.Roster.{sound as sound_of, state_of, added_working, removed_working, added_horizon, removed_horizon, empty_roster, with_state, most_servers};
 
@@ -8,7 +11,7 @@ use settings::Settings;
 pub mod parts;
 
 // At most 64 servers in rising order, each working (1) or in the horizon (2); unused places zero.
-#[derive(Drop)]
+#[derive(Clone, Copy)]
 pub struct Roster {
     pub servers: [u32; MOST_SERVERS],
     pub states: [u8; MOST_SERVERS],

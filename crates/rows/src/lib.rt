@@ -1,5 +1,8 @@
 // The row table: for each row the choice over the working servers and a flag, filled anew with each
 // roster change and read by each packet without a record.
+
+#![tactic(auto)]
+
 ghost use Rattle.std.specs.Prelude.{◌≡◌, min, get_or};
 ghost use Rattle.sets.specs.Sets.{in_state, working, standby};
 ghost use Rattle.rows.specs.Rows.{Rows, filled, cleared, row_read};

@@ -1,5 +1,8 @@
 // The answer to an event, and in specs/ what each event does: the refusal table and the effects, for every
 // input. There is no code in this crate: `engine` and `balancer` carry it out.
+
+#![tactic(auto)]
+
 use roster::Roster;
 
 // The marks of accepted packets: from the key's record; chosen and safe; chosen and recorded; chosen, unsafe and no room.
@@ -19,14 +22,14 @@ pub const RECORD_REMOVED: u8 = 5;
 pub const NOTHING_TO_REMOVE: u8 = 6;
 
 // The answer: the accepted facts or a refusal number.
-#[derive(Drop)]
+#[derive(Clone, Copy)]
 pub enum Reply {
     Accepted { server: u32, mark: u8, reads: usize },
     Refused(u8),
 }
 
 // What the balancer hands back: the answer and the roster afterwards.
-#[derive(Drop)]
+#[derive(Clone, Copy)]
 pub struct Outcome {
     pub reply: Reply,
     pub roster: Roster,

@@ -1,5 +1,7 @@
 // Sets of servers as lists: definitions in specs/, laws in proofs/. The code of the crates above shares these numbers.
 
+#![tactic(auto)]
+
 // The state of a server at work.
 pub const WORKING: u8 = 1;
 

@@ -1,4 +1,7 @@
 // What configure sets for the whole roster, and which settings are valid.
+
+#![tactic(auto)]
+
 ghost use Rattle.std.specs.Prelude.{◌≡◌};
 ghost use Rattle.settings.specs.Settings.{valid as valid-of, fresh as fresh-of, named as named-of, well_formed};
 
@@ -16,7 +19,7 @@ pub const MOST_ROWS: u16 = 4096;
 pub const BODY_BYTES: usize = 13;
 
 // The method and the number of rows.
-#[derive(Drop)]
+#[derive(Clone, Copy)]
 pub struct Settings {
     pub method: u8,
     pub rows: u16,

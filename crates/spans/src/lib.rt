@@ -1,4 +1,7 @@
 // Work on whole spans of bytes: a caller lends the part of its buffer that is meant.
+
+#![tactic(auto)]
+
 ghost use Rattle.std.specs.Prelude.{◌≡◌};
 ghost use Rattle.spans.specs.Spans.{all_zero, zeroed, closed, shifted};
 

@@ -1,4 +1,7 @@
 // The tracking table: records of 20 bytes in a lent buffer. Places are counted from 1.
+
+#![tactic(auto)]
+
 mod search;
 
 ghost use Rattle.std.specs.Prelude.{◌≡◌, ◌++◌, ◌+◌, ◌*◌, ◌-◌, ◌<◌, ◌≤◌, length, take, drop, replicate};
@@ -27,7 +30,7 @@ pub const HALF_CLOSED_TAG: u8 = 2;
 pub const MOST_TABLE_BYTES: usize = 65520;
 
 // Where a key's record is, or, where it has none, how many records are used: either way the number of used records read.
-#[derive(Drop)]
+#[derive(Clone, Copy)]
 pub enum Found {
     At(usize),
     Nothing(usize),

@@ -1,4 +1,7 @@
 // The balancer with the ring by value, for programs that are covered whole.
+
+#![tactic(auto)]
+
 ghost use Rattle.std.specs.Prelude.{◌≡◌, replicate};
 ghost use Rattle.ring.specs.Ring.{blank};
 ghost use Rattle.rules.specs.Rules.{world_with, EventPromise, StartPromise};
@@ -8,7 +11,7 @@ use roster::Roster;
 use rules::Outcome;
 
 // What an event hands back here: the outcome, and the ring afterwards.
-#[derive(Drop)]
+#[derive(Clone, Copy)]
 pub struct Tried {
     pub outcome: Outcome,
     pub ring: [Entry; ring::RING_PLACES],

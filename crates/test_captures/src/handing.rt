@@ -116,7 +116,7 @@ fn handed(
 }
 
 // A capture of which pieces were handed over, and the digest of the events so far.
-#[derive(Drop)]
+#[derive(Clone, Copy)]
 pub struct Progress {
     pub stream: Stream,
     pub digest: u64,

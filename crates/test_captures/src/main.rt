@@ -1,5 +1,8 @@
 // Test program: captures on standard input, each behind its length in four bytes. Prints what each comes to: as it is, every
 // beginning of it, with every byte changed in every way, and handed over in pieces.
+
+#![tactic(auto)]
+
 mod damage;
 mod handing;
 mod numbers;

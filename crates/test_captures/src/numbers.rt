@@ -3,7 +3,7 @@ use crate::text;
 use pcap::{Said, Tally};
 
 // The sums, the refusal and the byte where it stands, and a digest of the events.
-#[derive(Drop)]
+#[derive(Clone, Copy)]
 pub struct Numbers {
     pub tally: Tally,
     pub refusal: u8,

@@ -1,6 +1,9 @@
 // Cases of the leaves and of the methods: both sides of each limit of settings, rosters, event records and tables, and damaged ones of every
 // kind; then rows filled, HRW picks and rings planned for given servers. The cases stand in the file stdin, section by section; each line
 // is printed with its outcome. What must be printed stands in the file stdout, worked out from document 01.
+
+#![tactic(auto)]
+
 mod events;
 mod given;
 mod picks;
@@ -15,7 +18,7 @@ use roster::Roster;
 use script::Step;
 
 // The sections: settings and rosters; event records and tables; the methods.
-#[derive(Drop)]
+#[derive(Clone, Copy)]
 pub enum Part {
     Rosters,
     Tables,
@@ -23,7 +26,7 @@ pub enum Part {
 }
 
 // What a step leaves for the next one beside the lent buffers: the section, its servers, and how many bytes of the table it takes.
-#[derive(Drop)]
+#[derive(Clone, Copy)]
 pub struct Kept {
     pub part: Part,
     pub roster: Roster,

@@ -2,7 +2,7 @@
 // that begins with a capital letter is no step. An equals sign stands before each section but the first.
 
 // What was read of a step: its first letter, the number before the last space, and the one behind it.
-#[derive(Drop)]
+#[derive(Clone, Copy)]
 pub struct Step {
     pub op: u8,
     pub a: u32,

@@ -6,7 +6,7 @@ use test_byvalue::Tried;
 
 // The numbers are: how many bytes of the event, the table and the flags, and how many rows are lent; and what is done, 0 the event, 1 the
 // event with a ring of 63 entries, 2 a start.
-#[derive(Drop)]
+#[derive(Clone, Copy)]
 pub struct Given {
     pub event: [u8; 16],
     pub numbers: [u32; 5],

@@ -3,6 +3,9 @@
 // steps, each with a comma behind it, which write what is lent. Printed are the name and the colon, then refusal, server, mark, reads, the
 // used records afterwards, and the digests of table, rows, flags, ring and roster. What must be printed stands in the file stdout, and
 // comes from the independent model of tests/model.
+
+#![tactic(auto)]
+
 ghost use Rattle.std.specs.Prelude.{◌≡◌, length};
 
 mod digests;

@@ -1,7 +1,7 @@
 // Lines as text: a name, then steps, each with a comma behind it. A step is a word, an index and numbers for that index and those behind it.
 
 // What was read of a line: 0 for the name, 1 for a word, 2 for an index, 3 for a number; the word's first letter, the index, the number.
-#[derive(Drop)]
+#[derive(Clone, Copy)]
 pub struct Step {
     pub part: u8,
     pub op: u8,

@@ -1,6 +1,9 @@
 // Runs the FNV authors' published vectors of 32-bit FNV-1a through `hash`. The vectors stand in the file stdin, a line each, in quotation
 // marks, with \0 for a zero byte and \n for a line end; each line is printed with F of its bytes in hexadecimal behind it. What must be
 // printed stands in the file stdout, typed from the published list.
+
+#![tactic(auto)]
+
 use libc::STDOUT_FILENO;
 
 // The byte that a character stands for, by the character before it.

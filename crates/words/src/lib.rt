@@ -1,4 +1,7 @@
 // Numbers as bytes, the lowest byte first.
+
+#![tactic(auto)]
+
 ghost use Rattle.std.specs.Prelude.{◌≡◌};
 ghost use Rattle.words.specs.Words.{number8};
 
