@@ -1,0 +1,15 @@
+-- `spans::clear` meets its contract.
+use Prim.Native.Nat.{◌≤◌, ◌-◌}
+use mathlib.Core.Path.{◌≡◌, refl, ◌∙◌}
+use mathlib.Core.List.{◌++◌, append-nil}
+use native.Mathlib.Omega.{arith}
+use lib.ListN.{length, drop, drop_of_length-le, replicate}
+use borrow.Author.Fill.{fill_more}
+use borrow.Author.Rules.{rules}
+use Rattle.spans.proofs.clear.Given as goal
+
+abbrev pub invariant-loop-i : goal.invariant-loop-i
+invariant-loop-i l = (l.i ≤ length l.initial.s) × ((length l.s ≡ length l.initial.s) × (l.s ≡ replicate l.i 0 ++ drop l.i l.initial.s))
+
+abbrev pub decreases-loop-i : goal.decreases-loop-i
+decreases-loop-i l = length l.initial.s - l.i
