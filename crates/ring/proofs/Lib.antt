@@ -1,5 +1,3 @@
-pub mod Entries
-pub mod Arrays
 pub mod Search
 pub mod Writing
 pub mod Unique

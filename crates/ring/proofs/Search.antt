@@ -5,13 +5,16 @@ use native.Mathlib.Nat.{lt_of_lt_of_le, min-le_left, suc-ne-zero, zero-lt-suc}
 use native.Mathlib.Omega.{arith}
 use mathlib.Core.Bool.{Bool, cond, not}
 use mathlib.Core.List.{List, [], ◌∷◌}
-use lib.ListN.{length, take, drop, length-take, drop_of_length-le}
+use lib.ListN.{length, get_or, take, drop, length-take, drop_of_length-le}
 use lib.Dec.{T, eqb}
 use lib.Seq.{take-nil, drop-cons, get_or-take}
 use borrow.Author.Tests.{le-leb, lt-leb}
 use Rattle.ring.specs.declared.Entry.{Entry}
 use Rattle.ring.specs.Ring.{blank, first_from, entry_read}
-use Rattle.ring.proofs.Entries.{at}
+
+-- the entry at an index
+abbrev pub at : List Entry → ℕ → Entry
+at es i = get_or es i blank
 
 pub empty : (es : List Entry) (places point : ℕ) → length es ≡ 0 → blank ≡ entry_read places point es
 unfolding entry_read first_from

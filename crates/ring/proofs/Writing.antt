@@ -9,7 +9,7 @@ use lib.Seq.{length-take-le, take-suc, drop-cons, append_snoc, set_at}
 use borrow.Author.Tests.{le-leb, lt-leb}
 use Rattle.ring.specs.declared.Entry.{Entry}
 use Rattle.ring.specs.Ring.{blank, overlaid}
-use Rattle.ring.proofs.Entries.{at}
+use Rattle.ring.proofs.Search.{at}
 
 module _ (es plan : List Entry) where
   abbrev pub written : ℕ → List Entry
