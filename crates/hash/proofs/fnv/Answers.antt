@@ -1,4 +1,4 @@
-use Rattle.std.proofs.Common.{◌≡◌, ◌-◌, ◌<◌, ◌≤◌, length, drop, refl, add-one, arith, drop_of_length-le, drop-cons, rules}
+use Rattle.std.proofs.Common.{◌<◌, length, refl, add-one, arith, drop_of_length-le, drop-cons, rules}
 use Rattle.hash.specs.Hash.{stir_all, F}
 use Rattle.hash.proofs.fnv.Goals as goal
 

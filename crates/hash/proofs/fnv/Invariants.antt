@@ -1,5 +1,5 @@
 -- `hash::fnv` meets its contract.
-use Rattle.std.proofs.Common.{◌≡◌, ◌-◌, ◌<◌, ◌≤◌, length, drop, refl, add-one, arith, drop_of_length-le, drop-cons, rules}
+use Rattle.std.proofs.Common.{◌≡◌, ◌-◌, ◌≤◌, length, drop}
 use Rattle.hash.specs.Hash.{stir_all, F}
 use Rattle.hash.proofs.fnv.Given as goal
 

@@ -1,5 +1,5 @@
 -- `hash::position` meets its contract.
-use Rattle.std.proofs.Common.{ap, ◌∙◌, rules}
+use Rattle.std.proofs.Common.{ap, ◌∙◌}
 use Rattle.hash.specs.Hash.{F}
 use Rattle.hash.proofs.position.Goals as goal
 

@@ -1,7 +1,6 @@
 -- `hash::weight` meets its contract.
 use Rattle.hash.specs.Hash.{weight}
 use Rattle.hash.proofs.LowBits.{step_low}
-use Rattle.std.proofs.Common.{rules}
 use Rattle.hash.proofs.weight.Goals as goal
 
 pub returns : goal.returns

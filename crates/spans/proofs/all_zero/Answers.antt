@@ -1,10 +1,5 @@
-use Prim.Native.Nat.{◌≤◌, ◌-◌}
-use mathlib.Core.Bool.{false, cond}
-use mathlib.Core.Path.{◌≡◌, refl}
+use mathlib.Core.Path.{refl}
 use native.Mathlib.Omega.{arith}
-use lib.Dec.{eqb}
-use lib.ListN.{length, drop}
-use Rattle.spans.specs.Spans.{all_zero}
 use Rattle.spans.proofs.Scans.{zero_more, zero-end}
 use borrow.Author.Rules.{rules}
 use Rattle.spans.proofs.all_zero.Goals as goal

@@ -1,13 +1,10 @@
 -- `spans::all_zero` meets its contract: with what was read so far zero, what is left decides.
 use Prim.Native.Nat.{◌≤◌, ◌-◌}
 use mathlib.Core.Bool.{false, cond}
-use mathlib.Core.Path.{◌≡◌, refl}
-use native.Mathlib.Omega.{arith}
+use mathlib.Core.Path.{◌≡◌}
 use lib.Dec.{eqb}
 use lib.ListN.{length, drop}
 use Rattle.spans.specs.Spans.{all_zero}
-use Rattle.spans.proofs.Scans.{zero_more, zero-end}
-use borrow.Author.Rules.{rules}
 use Rattle.spans.proofs.all_zero.Given as goal
 
 abbrev pub invariant-loop-i : goal.invariant-loop-i

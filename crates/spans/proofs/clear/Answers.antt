@@ -1,8 +1,7 @@
-use Prim.Native.Nat.{◌≤◌, ◌-◌}
 use mathlib.Core.Path.{◌≡◌, refl, ◌∙◌}
-use mathlib.Core.List.{◌++◌, append-nil}
+use mathlib.Core.List.{append-nil}
 use native.Mathlib.Omega.{arith}
-use lib.ListN.{length, drop, drop_of_length-le, replicate}
+use lib.ListN.{length, drop_of_length-le}
 use borrow.Author.Fill.{fill_more}
 use borrow.Author.Rules.{rules}
 use Rattle.spans.proofs.clear.Goals as goal

@@ -1,11 +1,8 @@
 -- `spans::clear` meets its contract.
 use Prim.Native.Nat.{◌≤◌, ◌-◌}
-use mathlib.Core.Path.{◌≡◌, refl, ◌∙◌}
-use mathlib.Core.List.{◌++◌, append-nil}
-use native.Mathlib.Omega.{arith}
-use lib.ListN.{length, drop, drop_of_length-le, replicate}
-use borrow.Author.Fill.{fill_more}
-use borrow.Author.Rules.{rules}
+use mathlib.Core.Path.{◌≡◌}
+use mathlib.Core.List.{◌++◌}
+use lib.ListN.{length, drop, replicate}
 use Rattle.spans.proofs.clear.Given as goal
 
 abbrev pub invariant-loop-i : goal.invariant-loop-i

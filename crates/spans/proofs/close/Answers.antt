@@ -1,7 +1,6 @@
 -- `spans::close` meets its contract.
 use native.Mathlib.Omega.{arith}
 use Rattle.spans.proofs.Shifts.{close_law, close_all}
-use borrow.Author.Rules.{rules}
 use Rattle.spans.proofs.close.Goals as goal
 
 pub returns-then-s-k : goal.returns-then-s-k

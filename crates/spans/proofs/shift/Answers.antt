@@ -1,8 +1,7 @@
 use Prim.Native.Nat.{◌≤◌, ◌-◌}
 use mathlib.Core.Path.{◌≡◌, refl, ◌∙◌}
-use mathlib.Core.List.{◌++◌}
 use native.Mathlib.Omega.{arith}
-use lib.ListN.{length, drop, take, length-drop}
+use lib.ListN.{length, drop, length-drop}
 use lib.Seq.{take_all}
 use Rattle.spans.proofs.Shifts.{shift_more, shift_none}
 use borrow.Author.Rules.{rules}

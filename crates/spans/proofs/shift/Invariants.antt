@@ -1,12 +1,8 @@
 -- `spans::shift` meets its contract.
 use Prim.Native.Nat.{◌≤◌, ◌-◌}
-use mathlib.Core.Path.{◌≡◌, refl, ◌∙◌}
+use mathlib.Core.Path.{◌≡◌}
 use mathlib.Core.List.{◌++◌}
-use native.Mathlib.Omega.{arith}
-use lib.ListN.{length, drop, take, length-drop}
-use lib.Seq.{take_all}
-use Rattle.spans.proofs.Shifts.{shift_more, shift_none}
-use borrow.Author.Rules.{rules}
+use lib.ListN.{length, drop, take}
 use Rattle.spans.proofs.shift.Given as goal
 
 abbrev pub invariant-loop-i : goal.invariant-loop-i
