@@ -1,5 +1,5 @@
 -- Numbers and their bytes: each gives the other back, and the first byte is the highest.
-use Prim.Native.Nat.{ℕ, ◌+◌, ◌*◌, ◌/◌, ◌%◌, ◌<◌, ◌^◌}
+use Prim.Native.Nat.{ℕ, ◌/◌, ◌%◌, ◌<◌, ◌^◌}
 use mathlib.Core.List.{[], ◌∷◌}
 use mathlib.Core.Path.{◌≡◌}
 use native.Mathlib.Nat.{mod-eq_of_lt}

@@ -1,5 +1,5 @@
 -- Going by cases on a test, with the test's outcome at hand in each case.
-use mathlib.Core.Bool.{Bool, true, false, not, ◌&&◌, ◌||◌, true≢false}
+use mathlib.Core.Bool.{Bool, true, false, ◌||◌, true≢false}
 use mathlib.Core.Path.{◌≡◌, refl, sym, ◌∙◌}
 
 module _ {ℓ} {C : Type ℓ} where
