@@ -1,8 +1,8 @@
 -- The laws of the choice over a set, for any strict ranking.
 use Prim.Native.Nat.{ℕ}
-use mathlib.Core.Bool.{true, false}
+use mathlib.Core.Bool.{true, false, cond}
 use mathlib.Core.List.{List, [], ◌∷◌, ◌++◌}
-use mathlib.Core.Path.{◌≡◌, refl, sym, ◌∙◌}
+use mathlib.Core.Path.{◌≡◌, refl, sym, ◌∙◌, subst}
 use borrow.Author.Tests.{eq-eqb}
 use Rattle.sets.specs.Sets.{member, Within, SameSet}
 use Rattle.sets.proofs.Cases.{both, clash, either, or_left, not_so}
@@ -34,10 +34,15 @@ module _ (R : Ranking) (S : Strict R) where
   highest-member c (s ∷ l) =
       both
       (R s c)
-      (λ t. rw t (member_tail (highest R s l) c (s ∷ l) (highest-member s l)))
       (
-      λ t. rw
-      t
+      λ t. subst
+      (λ b. member (highest R (cond b s c) l) (c ∷ s ∷ l) ≡ true)
+      (sym t)
+      (member_tail (highest R s l) c (s ∷ l) (highest-member s l)))
+      (
+      λ t. subst
+      (λ b. member (highest R (cond b s c) l) (c ∷ s ∷ l) ≡ true)
+      (sym t)
       (member-cases
       (highest R c l)
       c

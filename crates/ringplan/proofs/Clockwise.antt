@@ -3,7 +3,7 @@
 use Prim.Native.Nat.{ℕ, ◌+◌, ◌-◌, ◌^◌, ◌≤◌, ◌<◌}
 use mathlib.Core.Bool.{Bool, true, false, cond, ◌||◌}
 use mathlib.Core.List.{List, [], ◌∷◌}
-use mathlib.Core.Path.{◌≡◌, refl}
+use mathlib.Core.Path.{◌≡◌, refl, sym, subst}
 use native.Mathlib.Omega.{arith}
 use lib.Dec.{eqb, ltb, leb}
 use borrow.Author.Tests.{leb-true, leb-false, eqb-true, eqb-false, ltb-false, le-ltb}
@@ -122,17 +122,21 @@ ahead : ℕ → List ℕ → Bool
 ahead p [] = false
 ahead p (s ∷ l) = leb p (position s) || ahead p l
 
-found : (p : ℕ) (l : List ℕ) (d : ℕ) → p < 2 ^ 32 → Ordered l → ahead p l ≡ true
-    → (member (seek p l d) l ≡ true) × (p ≤ position (seek p l d)) × ((x : ℕ) → member x l ≡ true → ring p x (seek p l d) ≡ false)
-unfolding ahead seek
+-- what is found there
+Nearest : ℕ → List ℕ → ℕ → Type 0
+Nearest p l v = (member v l ≡ true) × (p ≤ position v) × ((x : ℕ) → member x l ≡ true → ring p x v ≡ false)
+
+found : (p : ℕ) (l : List ℕ) (d : ℕ) → p < 2 ^ 32 → Ordered l → ahead p l ≡ true → Nearest p l (seek p l d)
+unfolding ahead seek Nearest
 found p [] d hp o e = clash e refl
 found p (s ∷ l) d hp o e =
     both
     (leb p (position s))
     (
     λ t. let h : p ≤ position s = leb-true p (position s) t in
-    rw
-    t (
+    subst
+    (λ b. Nearest p (s ∷ l) (cond b s (seek p l d)))
+    (sym t) (
       member_head s l,
       h,
       λ x m. member-cases
@@ -145,8 +149,9 @@ found p (s ∷ l) d hp o e =
     ))
     (
     λ t. let (a, b, c) = found p l d hp o.1 (rw t at e) in
-    rw
-    t (
+    subst
+    (λ b. Nearest p (s ∷ l) (cond b s (seek p l d)))
+    (sym t) (
       member_tail _ s l a,
       b,
       λ x m. member-cases x s l m (λ q. rw q (behind p s _ hp (leb-false p (position s) t) b)) (c x),
@@ -165,7 +170,7 @@ absent p (s ∷ l) d e =
 
 -- reading the servers in order is choosing
 pub seek-choice : (p s : ℕ) (l : List ℕ) → p < 2 ^ 32 → Ordered l → member s l ≡ true → choice (ring p) l ≡ seek p l (front l)
-unfolding front
+unfolding front Nearest
 seek-choice p s [] hp o m = clash m refl
 seek-choice p s (y ∷ l) hp o m =
     both
