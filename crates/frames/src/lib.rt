@@ -38,6 +38,7 @@ pub struct Outcome {
 }
 
 // What becomes of a captured packet; `ethernet` says whether the capture's link type is Ethernet.
+#[tactic(auto, unfolding(crate::specs::Frames::outcome))]
 pub fn judge(ethernet: bool, packet: &[u8]) -> Outcome
     ensures { result ≡ outcome ethernet packet.now }
 {
@@ -59,6 +60,7 @@ fn skipped(reason: u8) -> Outcome
 }
 
 // Asks an Ethernet packet whether IPv4 is in it, in a form that can be read.
+#[tactic(auto, unfolding(crate::specs::Frames::of_ethernet))]
 fn of_ethernet(packet: &[u8]) -> Outcome
     ensures { result ≡ of_ethernet packet.now }
 {
@@ -81,6 +83,7 @@ fn of_ethernet(packet: &[u8]) -> Outcome
 }
 
 // Asks an IPv4 packet whether it has the ports, being no later fragment, and of a protocol that has ports.
+#[tactic(auto, unfolding(crate::specs::Frames::of_ipv4))]
 fn of_ipv4(packet: &[u8]) -> Outcome
     requires { 5 ≤ header_words packet.now }
     ensures { result ≡ of_ipv4 packet.now }
