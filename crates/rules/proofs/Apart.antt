@@ -1,6 +1,4 @@
 -- `answer_of` tells any two replies apart.
-use Prim.Native.Nat.{ℕ}
-use mathlib.Core.Bool.{Bool, true, false}
 use mathlib.Core.Path.{◌≡◌, refl, sym, ap, ◌∙◌}
 use Rattle.sets.proofs.Cases.{clash}
 use Rattle.rules.specs.declared.Reply.{Reply}

@@ -2,7 +2,7 @@
 use Prim.Native.Nat.{ℕ}
 use mathlib.Core.Bool.{true, false, not}
 use mathlib.Core.List.{List}
-use mathlib.Core.Path.{◌≡◌, refl, ap}
+use mathlib.Core.Path.{◌≡◌, refl}
 use lib.Dec.{eqb, ltb}
 use lib.ListN.{length}
 use Rattle.sets.proofs.Cases.{both, clash}
@@ -12,7 +12,7 @@ use Rattle.roster.specs.Roster.{sound}
 use Rattle.event.specs.Event.{Request, event_in}
 use Rattle.table.specs.Table.{Finding, find, room}
 use Rattle.ring.specs.Ring.{entry_read}
-use Rattle.rules.specs.Answer.{Answer, accepts, refuses}
+use Rattle.rules.specs.Answer.{Answer, accepts}
 use Rattle.rules.proofs.Ends.{Ends, first, next, nothing, ends}
 use Rattle.rules.specs.Rules.{State, World, Change, Done, is, barred, refused, packet, effect, judged, pick_by, sized_for, lent_bar, admitted, settled, event_of, start_of}
 

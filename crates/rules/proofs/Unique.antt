@@ -4,7 +4,7 @@ use mathlib.Core.List.{List}
 use mathlib.Core.Path.{◌≡◌, sym, ap, ◌∙◌}
 use Prim.Native.Nat.{ℕ}
 use Rattle.rules.specs.declared.Reply.{Reply}
-use Rattle.rules.specs.Answer.{Answer, answer_of}
+use Rattle.rules.specs.Answer.{answer_of}
 use Rattle.rules.specs.Rules.{World, Done, EventPromise, StartPromise}
 use Rattle.rules.proofs.Apart.{answer_apart}
 

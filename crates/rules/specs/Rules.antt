@@ -1,5 +1,5 @@
 -- Document 01, "What each event does" and "Refusal numbers": what an event record does to the lent buffers and the roster, for every input.
-use Rattle.std.specs.Prelude.{ℕ, ◌%◌, Bool, true, false, cond, not, ◌&&◌, ◌||◌, List, [], ◌∷◌, ◌≡◌, eqb, leb, ltb, length}
+use Rattle.std.specs.Prelude.{ℕ, ◌%◌, Bool, false, cond, not, ◌&&◌, ◌||◌, List, ◌≡◌, eqb, leb, ltb, length}
 use Rattle.hash.specs.Hash.{F, digest}
 use Rattle.ranking.specs.declared.Pick.{Pick}
 use Rattle.ranking.specs.Ranking.{picked}
