@@ -1,5 +1,5 @@
 -- What the header and a packet record say, as the code finds it.
-use Rattle.std.proofs.Common.{◌≡◌, ℕ, ◌+◌, ◌-◌, ◌<◌, ◌≤◌, Bool, true, false, cond, ltb, leb, List, length, get_or, take, drop, sym, refl, ap, ◌∙◌, arith, ltb-false, le-ltb, ne_eqb, le-leb, leb-true}
+use Rattle.std.proofs.Common.{◌≡◌, ℕ, ◌+◌, ◌-◌, ◌<◌, ◌≤◌, Bool, true, false, cond, ltb, leb, List, length, get_or, take, drop, refl, ap, ◌∙◌, arith, ltb-false, le-ltb, ne_eqb, le-leb, leb-true}
 use lib.ListN.{get_or-eq_default}
 use borrow.Author.Tests.{lt-leb}
 use Rattle.bigendian.specs.BigEndian.{number4_at}
