@@ -1,9 +1,8 @@
 -- What "no key is recorded twice" and "every record names a working mover" mean, record by record.
-use Prim.Native.Nat.{ℕ}
-use mathlib.Core.Bool.{true, false}
+use mathlib.Core.Bool.{true}
 use mathlib.Core.List.{List, [], ◌∷◌, ◌++◌}
-use mathlib.Core.Path.{◌≡◌, sym}
-use Rattle.sets.proofs.Cases.{both, clash, or_left, or_right}
+use mathlib.Core.Path.{◌≡◌}
+use Rattle.sets.proofs.Cases.{clash, or_left, or_right}
 use Rattle.spans.specs.Spans.{same}
 use Rattle.spans.proofs.Scans.{same_self}
 use Rattle.roster.specs.declared.Roster.{Roster}
