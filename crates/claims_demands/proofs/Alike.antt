@@ -1,7 +1,10 @@
 -- Engines that show the same after every history of bytes: what demands 2 and 3 say of the one they say of the other.
 use Prim.Native.Nat.{ℕ}
+use mathlib.Core.Bool.{true, false}
 use mathlib.Core.List.{List, [], ◌∷◌, ◌++◌}
 use mathlib.Core.Path.{◌≡◌, refl, ◌∙◌}
+use Rattle.sets.specs.Sets.{member}
+use Rattle.roster.specs.Roster.{state_of, working, held_servers, working_set}
 use Rattle.claims_histories.specs.Histories.{AllBytes}
 use Rattle.claims_demands.specs.Demands.{Engine, Demand2, Throughout, ends_since, FewerThanTwo, NoneWithout, ProvisosWith, Steady, Demand3}
 
@@ -20,6 +23,15 @@ throughout_follows Q R (bytes ∷ between) h b f q = (f (between ++ h) bytes b q
 pub bytes_behind : (between h : List (List ℕ)) → AllBytes (between ++ h) → AllBytes h
 bytes_behind [] h b = b
 bytes_behind (bytes ∷ between) h b = bytes_behind between h b.1
+
+-- two of the provisos, at an event between
+abbrev WorksIn : Engine → List (List ℕ) → List ℕ → List (List ℕ) → List ℕ → Type 0
+WorksIn E h earlier g bytes = state_of (E.says h earlier).server (E.roster (bytes ∷ g)) ≡ working
+
+abbrev HeldIn : Engine → List (List ℕ) → List (List ℕ) → List ℕ → Type 0
+HeldIn E h g bytes =
+    (x : ℕ) → member x (working_set (E.roster (bytes ∷ g))) ≡ true → member x (working_set (E.roster g)) ≡ false
+    → member x (held_servers (E.roster h)) ≡ true
 
 module _ (E G : Engine) (a : Alike E G) where
   pub alike_obeys : (n : ℕ) → Demand2 n G → Demand2 n E
@@ -59,9 +71,11 @@ module _ (E G : Engine) (a : Alike E G) where
       same-provisos v =
           let before = a.roster h (bytes_behind between (earlier ∷ h) b).1 in
           record {
-            worked = throughout_follows _ _ between (earlier ∷ h) b (λ l bytes c q. rw (a.roster (bytes ∷ l) c, first-same) at q) v.worked;
-            ends = throughout_follows _ _ between (earlier ∷ h) b (carried key) v.ends;
-            held = throughout_follows _ _ between (earlier ∷ h) b
+            worked = throughout_follows (WorksIn E h earlier) (WorksIn G h earlier) between (earlier ∷ h) b
+                (λ l bytes c q. rw (a.roster (bytes ∷ l) c, first-same) at q)
+                v.worked;
+            ends = throughout_follows (Q key) (R key) between (earlier ∷ h) b (carried key) v.ends;
+            held = throughout_follows (HeldIn E h) (HeldIn G h) between (earlier ∷ h) b
                 (λ l bytes c q. rw (a.roster (bytes ∷ l) c, a.roster l c.1, before) at q)
                 v.held;
             room_told = rw first-same at v.room_told;

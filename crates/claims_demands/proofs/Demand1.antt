@@ -1,5 +1,5 @@
 -- Demand 1, proved of what `event` and `start` promise, for every input: the refusal table line by line, the marks, and that a refusal changes nothing.
-use Prim.Native.Nat.{ℕ, ◌≤◌}
+use Prim.Native.Nat.{ℕ}
 use mathlib.Core.Bool.{true, false, not}
 use mathlib.Core.List.{List, [], ◌∷◌}
 use mathlib.Core.Logic.{◌⊎◌, ⊎_elim}

@@ -18,7 +18,7 @@ use Rattle.rules.specs.Rules.{World, settled, event_of}
 use Rattle.claims_histories.specs.Histories.{start_accepted, after, answer, AllBytes, Distinct, AllWorking}
 use Rattle.claims_histories.proofs.Along.{event_judged, inner, along}
 use Rattle.claims_histories.proofs.Meaning.{distinct_apart, works_each}
-use Rattle.claims_demands.specs.Demands.{ours, mover, Throughout, FewerThanTwo, ProvisosWith, Steady, Demand3}
+use Rattle.claims_demands.specs.Demands.{ours, mover, Throughout, FewerThanTwo, NoneWithout, ProvisosWith, Steady, Demand3}
 use Rattle.claims_demands.proofs.Alike.{throughout_follows, bytes_behind}
 use Rattle.claims_demands.proofs.Obeys.{ours_obeys}
 use Rattle.claims_demands.proofs.Same.{accepted_works}
@@ -135,7 +135,14 @@ ours_steady w s =
           ends_enough w s h between earlier later key b p₁ p₂ a
           (record {
             worked = v.worked;
-            ends = throughout_follows _ _ between (earlier ∷ h) b.1 (λ g bytes c q. q.0) v.ends;
+            ends = throughout_follows
+                (λ g bytes. FewerThanTwo (ours w) key g bytes × NoneWithout (ours w) key g bytes)
+                (FewerThanTwo (ours w) key)
+                between
+                (earlier ∷ h)
+                b.1
+                (λ g bytes c q. q.0)
+                v.ends;
             held = v.held;
             room_told = v.room_told;
           });

@@ -5,7 +5,7 @@ use Rattle.spans.specs.Spans.{same}
 use Rattle.ranking.specs.Ranking.{Ranking, choice, pick_of, SomeChange}
 use Rattle.roster.specs.declared.Roster.{Roster}
 use Rattle.roster.specs.Roster.{state_of, working, held_servers, working_set, horizon, empty_roster}
-use Rattle.event.specs.Event.{Request, all_bytes, asks_key, event_in}
+use Rattle.event.specs.Event.{Request, asks_key, event_in}
 use Rattle.table.specs.Table.{Rec, entries, find, server_at, used, room, used_part, new_record, appended}
 use Rattle.ringplan.specs.Plan.{some}
 use Rattle.rules.specs.declared.Reply.{Reply}
