@@ -18,31 +18,26 @@ find_from-requires c = omega (arith, c.loop-at.invariant.1.whole)
 
 pub returns-then-table-at-ne-NEW_TAG : goal.returns-then-table-at-ne-NEW_TAG
 returns-then-table-at-ne-NEW_TAG c =
-    let l = c in
-    let p = l.args in
+    let p = c.args in
     let k = spells _ _ _ (omega arith) c.word_at-front.ensures c.word_at-back.ensures in
-    c.find_from.ensures p.key k ∙ l.loop-at.invariant.1.so p.key k ∙ from_first p.table.now p.key
+    c.find_from.ensures p.key k ∙ c.loop-at.invariant.1.so p.key k ∙ from_first p.table.now p.key
 
 pub returns-then-has_words : goal.returns-then-has_words
 returns-then-has_words c =
-    let u = c in
-    let l = u in
-    let w = l in
-    let p = w.args in
-    let tag = tags_are (get_or p.table.now (l.loop-at.at + 13) 0) (inl (omega (arith, u.if-table-at-ne-NEW_TAG.false))) in
-    come_here p.table.now 0 _ _ l.loop-at.at l.loop-at.invariant.1 (omega arith) tag _ c.has_words.ensures c.if-has_words.true p.key (spells _ _ _ (omega arith) c.word_at-front.ensures c.word_at-back.ensures)
+    let p = c.args in
+    let k = spells _ _ _ (omega arith) c.word_at-front.ensures c.word_at-back.ensures in
+    let tag = tags_are (get_or p.table.now (c.loop-at.at + 13) 0) (inl (omega (arith, c.if-table-at-ne-NEW_TAG.false))) in
+    come_here p.table.now 0 _ _ c.loop-at.at c.loop-at.invariant.1 (omega arith) tag _ c.has_words.ensures c.if-has_words.true p.key k
     ∙ from_first p.table.now p.key
 
 pub loop-at-preserved : goal.loop-at-preserved
 loop-at-preserved c =
-    let u = c in
-    let l = u in
-    let p = l.args in
-    let tag = tags_are (get_or p.table.now (l.loop-at.at + 13) 0) (inl (omega (arith, u.if-table-at-ne-NEW_TAG.false))) in
-    (omega (arith, l.loop-at.invariant.1.whole), come_on p.table.now 0 _ _ l.loop-at.at l.loop-at.invariant.1 (omega arith) tag _ c.has_words.ensures c.if-has_words.false)
+    let p = c.args in
+    let tag = tags_are (get_or p.table.now (c.loop-at.at + 13) 0) (inl (omega (arith, c.if-table-at-ne-NEW_TAG.false))) in
+    (omega (arith, c.loop-at.invariant.1.whole), come_on p.table.now 0 _ _ c.loop-at.at c.loop-at.invariant.1 (omega arith) tag _ c.has_words.ensures c.if-has_words.false)
 
 pub returns : goal.returns
 returns c =
-    let l = c in
-    let p = l.args in
-    come_end p.table.now 0 _ _ l.loop-at.at l.loop-at.invariant.1 (omega arith) p.key (spells _ _ _ (omega arith) c.word_at-front.ensures c.word_at-back.ensures) ∙ from_first p.table.now p.key
+    let p = c.args in
+    let k = spells _ _ _ (omega arith) c.word_at-front.ensures c.word_at-back.ensures in
+    come_end p.table.now 0 _ _ c.loop-at.at c.loop-at.invariant.1 (omega arith) p.key k ∙ from_first p.table.now p.key

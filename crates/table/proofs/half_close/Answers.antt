@@ -17,21 +17,17 @@ returns-then-n-place c =
 
 pub overflow_mul-table : goal.overflow_mul-table
 overflow_mul-table c =
-    let u = c in
-    omega (arith, u.used-n.ensures, used_fits u.args.table.now)
+    omega (arith, c.used-n.ensures, used_fits c.args.table.now)
 
 pub overflow_add-table : goal.overflow_add-table
 overflow_add-table c =
-    let u = c in
-    omega (arith, u.used-n.ensures, used_fits u.args.table.now)
+    omega (arith, c.used-n.ensures, used_fits c.args.table.now)
 
 pub bounds-table-place : goal.bounds-table-place
 bounds-table-place c =
-    let u = c in
-    omega (arith, u.used-n.ensures, used_fits u.args.table.now)
+    omega (arith, c.used-n.ensures, used_fits c.args.table.now)
 
 pub returns : goal.returns
 returns c =
-    let u = c in
-    let p = u.args in
-    half_in p.table.now p.place _ c.if-place-eq0.false (omega (arith, u.used-n.ensures)) refl
+    let p = c.args in
+    half_in p.table.now p.place _ c.if-place-eq0.false (omega (arith, c.used-n.ensures)) refl

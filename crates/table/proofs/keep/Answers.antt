@@ -20,12 +20,10 @@ loop-k-init c =
 
 pub loop-k-preserved : goal.loop-k-preserved
 loop-k-preserved c =
-    let l = c in
-    let p = l.args in
-    (search rules, (search rules, rw l.loop-k.invariant.1.1 (copy_turn p.table.now (p.i * 20) (p.w * 20) l.loop-k.k (omega arith) (omega arith))))
+    let p = c.args in
+    (search rules, (search rules, rw c.loop-k.invariant.1.1 (copy_turn p.table.now (p.i * 20) (p.w * 20) c.loop-k.k (omega arith) (omega arith))))
 
 pub returns : goal.returns
 returns c =
-    let l = c in
-    let e : l.loop-k.k ≡ 20 = omega arith in
-    rw e at l.loop-k.invariant.1.1
+    let e : c.loop-k.k ≡ 20 = omega arith in
+    rw e at c.loop-k.invariant.1.1

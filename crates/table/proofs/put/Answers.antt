@@ -28,7 +28,4 @@ shape_of-s c = simp length-set (omega arith)
 
 pub returns : goal.returns
 returns c =
-    let k = c in
-    let b = k in
-    let p = b in
-    filled p.args.s.now k.put_key.new.s p.args.key b.split4-b.result p.args.server p.requires (search rules) k.put_key.ensures b.split4-b.ensures
+    filled c.args.s.now c.put_key.new.s c.args.key c.split4-b.result c.args.server c.requires (search rules) c.put_key.ensures c.split4-b.ensures

@@ -11,13 +11,11 @@ loop-i-init c = (search rules, (refl, refl))
 
 pub loop-i-preserved : goal.loop-i-preserved
 loop-i-preserved c =
-    let l = c in
-    let n : length l.args.key ≡ 13 = search rules in
-    (search rules, (search rules, rw l.loop-i.invariant.1.1 (copy_more l.args.key l.args.s.now l.loop-i.i (omega arith) (omega arith))))
+    let n : length c.args.key ≡ 13 = search rules in
+    (search rules, (search rules, rw c.loop-i.invariant.1.1 (copy_more c.args.key c.args.s.now c.loop-i.i (omega arith) (omega arith))))
 
 pub returns : goal.returns
 returns c =
-    let l = c in
-    let n : length l.args.key ≡ 13 = search rules in
-    let e : l.loop-i.i ≡ 13 = omega arith in
-    l.loop-i.invariant.1.1 ∙ rw (e, take_all 13 l.args.key (omega arith))
+    let n : length c.args.key ≡ 13 = search rules in
+    let e : c.loop-i.i ≡ 13 = omega arith in
+    c.loop-i.invariant.1.1 ∙ rw (e, take_all 13 c.args.key (omega arith))

@@ -16,11 +16,9 @@ returns-then-n-place c =
 
 pub close_gap-requires : goal.close_gap-requires
 close_gap-requires c =
-    let u = c in
-    omega (arith, u.used-n.ensures, used_fits u.args.table.now)
+    omega (arith, c.used-n.ensures, used_fits c.args.table.now)
 
 pub returns : goal.returns
 returns c =
-    let u = c in
-    let p = u.args in
-    removed-at p.table.now c.close_gap.new.table p.place u.used-n.result u.used-n.ensures (omega arith) (omega arith) c.close_gap.ensures
+    let p = c.args in
+    removed-at p.table.now c.close_gap.new.table p.place c.used-n.result c.used-n.ensures (omega arith) (omega arith) c.close_gap.ensures

@@ -17,46 +17,38 @@ loop-i-init c = (search rules, omega arith)
 
 pub returns-then-not-used_tag : goal.returns-then-not-used_tag
 returns-then-not-used_tag c =
-    let l = c in
-    let t = l.args.table.now in
+    let t = c.args.table.now in
     let tag = sym c.used_tag.ensures ∙ c.if-not-used_tag.true in
-    omega (arith, ap length (used_stop t l.loop-i.i (omega arith) tag))
+    omega (arith, ap length (used_stop t c.loop-i.i (omega arith) tag))
 
 pub returns-then-not-used_tag-2 : goal.returns-then-not-used_tag-2
 returns-then-not-used_tag-2 c =
-    let u = c in
-    let l = u in
-    let t = l.args.table.now in
-    let tag = sym u.used_tag.ensures ∙ u.if-not-used_tag.false in
-    let tag2 = rw (next l.loop-i.i) at (sym c.used_tag-in-loop-i.ensures ∙ c.if-not-used_tag-2.true) in
-    omega (arith, ap length (used_more t l.loop-i.i (omega arith) tag), ap length (used_stop t (l.loop-i.i + 1) (omega arith) tag2))
+    let t = c.args.table.now in
+    let tag = sym c.used_tag.ensures ∙ c.if-not-used_tag.false in
+    let tag2 = rw (next c.loop-i.i) at (sym c.used_tag-in-loop-i.ensures ∙ c.if-not-used_tag-2.true) in
+    omega (arith, ap length (used_more t c.loop-i.i (omega arith) tag), ap length (used_stop t (c.loop-i.i + 1) (omega arith) tag2))
 
 pub loop-i-preserved : goal.loop-i-preserved
 loop-i-preserved c =
-    let u = c in
-    let l = u in
-    let t = l.args.table.now in
-    let two : l.loop-i.i + 1 + 1 ≡ l.loop-i.i + 2 = omega arith in
-    let tag = sym u.used_tag.ensures ∙ u.if-not-used_tag.false in
-    let tag2 = rw (next l.loop-i.i) at (sym c.used_tag-in-loop-i.ensures ∙ c.if-not-used_tag-2.false) in
-    let more2 = rw two at (ap length (used_more t (l.loop-i.i + 1) (omega arith) tag2)) in
-    (search rules, omega (arith, ap length (used_more t l.loop-i.i (omega arith) tag), more2))
+    let t = c.args.table.now in
+    let two : c.loop-i.i + 1 + 1 ≡ c.loop-i.i + 2 = omega arith in
+    let tag = sym c.used_tag.ensures ∙ c.if-not-used_tag.false in
+    let tag2 = rw (next c.loop-i.i) at (sym c.used_tag-in-loop-i.ensures ∙ c.if-not-used_tag-2.false) in
+    let more2 = rw two at (ap length (used_more t (c.loop-i.i + 1) (omega arith) tag2)) in
+    (search rules, omega (arith, ap length (used_more t c.loop-i.i (omega arith) tag), more2))
 
 pub returns-then-used_tag : goal.returns-then-used_tag
 returns-then-used_tag c =
-    let l = c in
-    let t = l.args.table.now in
+    let t = c.args.table.now in
     let tag = sym c.used_tag-then-i-room.ensures ∙ c.if-used_tag.true in
-    omega (arith, ap length (used_more t l.loop-i.i (omega arith) tag), ap length (count-end t (l.loop-i.i + 1) (omega arith)))
+    omega (arith, ap length (used_more t c.loop-i.i (omega arith) tag), ap length (count-end t (c.loop-i.i + 1) (omega arith)))
 
 pub returns-else-used_tag : goal.returns-else-used_tag
 returns-else-used_tag c =
-    let l = c in
-    let t = l.args.table.now in
+    let t = c.args.table.now in
     let tag = sym c.used_tag-then-i-room.ensures ∙ c.if-used_tag.false in
-    omega (arith, ap length (used_stop t l.loop-i.i (omega arith) tag))
+    omega (arith, ap length (used_stop t c.loop-i.i (omega arith) tag))
 
 pub returns-else-i-room : goal.returns-else-i-room
 returns-else-i-room c =
-    let l = c in
-    omega (arith, ap length (count-end l.args.table.now l.loop-i.i (omega arith)))
+    omega (arith, ap length (count-end c.args.table.now c.loop-i.i (omega arith)))

@@ -17,53 +17,42 @@ loop-at-init c =
 
 pub returns-then-not-used_tag-2 : goal.returns-then-not-used_tag-2
 returns-then-not-used_tag-2 c =
-    let l = c in
-    let p = l.args in
+    let p = c.args in
     let tag = sym c.used_tag-in-loop-at.ensures ∙ c.if-not-used_tag-2.true in
-    come_stop p.table.now p.i _ _ l.loop-at.at l.loop-at.invariant.1 (omega arith) tag
+    come_stop p.table.now p.i _ _ c.loop-at.at c.loop-at.invariant.1 (omega arith) tag
 
 pub returns-then-has_words : goal.returns-then-has_words
 returns-then-has_words c =
-    let u = c in
-    let l = u in
-    let p = l.args in
-    let tag = sym u.used_tag-in-loop-at.ensures ∙ u.if-not-used_tag-2.false in
-    come_here p.table.now p.i _ _ l.loop-at.at l.loop-at.invariant.1 (omega arith) tag _ c.has_words.ensures c.if-has_words.true
+    let p = c.args in
+    let tag = sym c.used_tag-in-loop-at.ensures ∙ c.if-not-used_tag-2.false in
+    come_here p.table.now p.i _ _ c.loop-at.at c.loop-at.invariant.1 (omega arith) tag _ c.has_words.ensures c.if-has_words.true
 
 pub returns-then-not-used_tag-3 : goal.returns-then-not-used_tag-3
 returns-then-not-used_tag-3 c =
-    let u = c in
-    let l = u in
-    let p = l.args in
+    let p = c.args in
     let tag1 = sym c.used_tag-in-loop-at.ensures ∙ c.if-not-used_tag-2.false in
     let past = come_on p.table.now p.i _ _ c.loop-at.at c.loop-at.invariant.1 (omega arith) tag1 _ c.has_words.ensures c.if-has_words.false in
     let tag = sym c.used_tag-in-loop-at-2.ensures ∙ c.if-not-used_tag-3.true in
-    come_stop p.table.now p.i _ _ (l.loop-at.at + 20) past (omega arith) tag
+    come_stop p.table.now p.i _ _ (c.loop-at.at + 20) past (omega arith) tag
 
 pub returns-then-has_words-2 : goal.returns-then-has_words-2
 returns-then-has_words-2 c =
-    let v = c in
-    let u = v in
-    let l = u in
-    let p = l.args in
+    let p = c.args in
     let tag1 = sym c.used_tag-in-loop-at.ensures ∙ c.if-not-used_tag-2.false in
     let past = come_on p.table.now p.i _ _ c.loop-at.at c.loop-at.invariant.1 (omega arith) tag1 _ c.has_words.ensures c.if-has_words.false in
-    let tag = sym v.used_tag-in-loop-at-2.ensures ∙ v.if-not-used_tag-3.false in
-    come_here p.table.now p.i _ _ (l.loop-at.at + 20) past (omega arith) tag _ c.has_words-in-loop-at.ensures c.if-has_words-2.true
+    let tag = sym c.used_tag-in-loop-at-2.ensures ∙ c.if-not-used_tag-3.false in
+    come_here p.table.now p.i _ _ (c.loop-at.at + 20) past (omega arith) tag _ c.has_words-in-loop-at.ensures c.if-has_words-2.true
 
 pub loop-at-preserved : goal.loop-at-preserved
 loop-at-preserved c =
-    let v = c in
-    let u = v in
-    let l = u in
-    let p = l.args in
+    let p = c.args in
     let tag1 = sym c.used_tag-in-loop-at.ensures ∙ c.if-not-used_tag-2.false in
     let past = come_on p.table.now p.i _ _ c.loop-at.at c.loop-at.invariant.1 (omega arith) tag1 _ c.has_words.ensures c.if-has_words.false in
-    let tag = sym v.used_tag-in-loop-at-2.ensures ∙ v.if-not-used_tag-3.false in
-    let n : l.loop-at.at + 20 + 20 ≡ l.loop-at.at + 40 = omega arith in (
-      omega (arith, l.loop-at.invariant.1.whole),
+    let tag = sym c.used_tag-in-loop-at-2.ensures ∙ c.if-not-used_tag-3.false in
+    let n : c.loop-at.at + 20 + 20 ≡ c.loop-at.at + 40 = omega arith in (
+      omega (arith, c.loop-at.invariant.1.whole),
       rw n at
-          (come_on p.table.now p.i _ _ (l.loop-at.at + 20) past (omega arith) tag _ c.has_words-in-loop-at.ensures c.if-has_words-2.false),
+          (come_on p.table.now p.i _ _ (c.loop-at.at + 20) past (omega arith) tag _ c.has_words-in-loop-at.ensures c.if-has_words-2.false),
     )
 
 pub find_last-requires : goal.find_last-requires

@@ -18,20 +18,18 @@ returns-then-not-used_tag c =
 
 pub returns-then-has_words : goal.returns-then-has_words
 returns-then-has_words c =
-    let u = c in
-    let p = u.args in
+    let p = c.args in
     let w = c.has_words.ensures in
-    let tag = sym u.used_tag.ensures ∙ u.if-not-used_tag.false in
+    let tag = sym c.used_tag.ensures ∙ c.if-not-used_tag.false in
     λ key k.
     find_here p.table.now p.i (omega arith) key _ refl tag
     (spelt_same p.table.now key _ _ _ _ k (omega arith) w.1.0 w.1.1 w.0 ∙ c.if-has_words.true)
 
 pub returns : goal.returns
 returns c =
-    let u = c in
-    let p = u.args in
+    let p = c.args in
     let w = c.has_words.ensures in
-    let tag = sym u.used_tag.ensures ∙ u.if-not-used_tag.false in
+    let tag = sym c.used_tag.ensures ∙ c.if-not-used_tag.false in
     λ key k.
     find-end p.table.now (p.i + 1) (omega arith) key _
     (find_more p.table.now p.i (omega arith) key _ refl tag

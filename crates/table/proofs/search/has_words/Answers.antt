@@ -7,18 +7,14 @@ use Rattle.table.proofs.search.has_words.Goals as goal
 
 pub returns-then-word_at-back : goal.returns-then-word_at-back
 returns-then-word_at-back c =
-    let b = c in
-    let a = b in
-    let p = a.args in (
-      rw (ne_eqb (word_at p.table.now (p.at + 5)) p.back (λ e. c.if-word_at-back.true (b.word_at.ensures.0 ∙ e))),
-      (a.word_at-first.ensures.1, b.word_at.ensures.1),
+    let p = c.args in (
+      rw (ne_eqb (word_at p.table.now (p.at + 5)) p.back (λ e. c.if-word_at-back.true (c.word_at.ensures.0 ∙ e))),
+      (c.word_at-first.ensures.1, c.word_at.ensures.1),
     )
 
 pub returns : goal.returns
 returns c =
-    let b = c in
-    let a = b in
-    let p = a.args in (
-      rw (eq-eqb (word_at p.table.now (p.at + 5)) p.back (sym b.word_at.ensures.0 ∙ c.if-word_at-back.false), a.word_at-first.ensures.0),
-      (a.word_at-first.ensures.1, b.word_at.ensures.1),
+    let p = c.args in (
+      rw (eq-eqb (word_at p.table.now (p.at + 5)) p.back (sym c.word_at.ensures.0 ∙ c.if-word_at-back.false), c.word_at-first.ensures.0),
+      (c.word_at-first.ensures.1, c.word_at.ensures.1),
     )
