@@ -1,8 +1,7 @@
 -- What is kept of a window: the tests that the code makes, as the definition puts them.
-use Rattle.std.proofs.Common.{◌≡◌, ℕ, ◌+◌, ◌-◌, ◌<◌, ◌≤◌, Bool, true, false, cond, ltb, leb, List, [], ◌∷◌, ◌++◌, length, get_or, take, drop, sym, refl, ap, ◌∙◌, append_assoc, arith, length-drop, take_all, le-ltb, lt-ltb, le-leb}
+use Rattle.std.proofs.Common.{◌≡◌, ℕ, ◌+◌, ◌-◌, ◌<◌, ◌≤◌, Bool, true, false, cond, ltb, List, [], ◌∷◌, ◌++◌, length, get_or, take, drop, refl, ap, ◌∙◌, append_assoc, arith, length-drop, le-ltb, lt-ltb}
 use lib.Seq.{sets, sets-eq}
 use borrow.Rule.Slice.PartMut.{post_of, Post-is}
-use borrow.Author.Tests.{lt-leb}
 use Rattle.spans.specs.Spans.{shifted}
 use Rattle.pcap.specs.Captures.{low_first, captured, record_size}
 use Rattle.pieces.specs.Pieces.{most_read_bytes, trimmed, too_long, kept_first, carried}

@@ -9,7 +9,7 @@ use Rattle.pcap.specs.declared.Said.TheVariants.{Event, Skipped, Finished, Refus
 use Rattle.pcap.specs.declared.Tally.{Tally}
 use Rattle.pcap.specs.declared.Step.{Step}
 use Rattle.pcap.proofs.Files.{whole_there}
-use Rattle.pcap.specs.Captures.{header_refusal, low_first, ethernet, whole, packet, record_size, record_bytes, short_record, step_at, record_at, with_one, meets, silent}
+use Rattle.pcap.specs.Captures.{header_refusal, low_first, ethernet, whole, packet, record_size, short_record, step_at, record_at, with_one, meets, silent}
 use Rattle.pieces.specs.Pieces.{Ran, stopped, with_event, by_said, read_on, enough}
 
 -- ---- the reader moves on

@@ -1,12 +1,11 @@
 -- Request [2]: a capture of any length in a buffer of one length. The buffer holds a window: the file's header, then packet records as far as
 -- they have come. What the reader gives of a window, and what is kept of it for the next one.
-use Rattle.std.specs.Prelude.{ℕ, zero, suc, ◌+◌, ◌-◌, ◌*◌, ◌/◌, Bool, true, false, cond, List, [], ◌∷◌, ◌++◌, length, take, drop, nat_le, nat_lt, slice_range}
+use Rattle.std.specs.Prelude.{ℕ, zero, suc, ◌+◌, ◌-◌, ◌*◌, ◌/◌, Bool, false, cond, List, [], ◌∷◌, ◌++◌, length, take, drop, nat_le, nat_lt, slice_range}
 use Rattle.spans.specs.Spans.{shifted}
 use Rattle.event.specs.Event.{event_bytes}
 use Rattle.pcap.specs.declared.Said.{Said}
 use Rattle.pcap.specs.declared.Said.TheVariants.{Event, Skipped, Finished, Refused}
 use Rattle.pcap.specs.declared.Tally.{Tally}
-use Rattle.pcap.specs.declared.Step.{Step}
 use Rattle.pcap.specs.Captures.{low_first, captured, record_size, header_bytes, record_bytes, step_at}
 use Rattle.pieces.specs.declared.Kept.{Kept}
 use Rattle.pieces.specs.declared.Filled.{Filled}

@@ -1,6 +1,6 @@
 -- Request [2]: a capture that comes in pieces. Each piece stands behind the window in the buffer when it is taken in; what it completes becomes
 -- event records in a second buffer.
-use Rattle.std.specs.Prelude.{ℕ, ◌+◌, ◌-◌, ◌%◌, ◌^◌, Bool, true, false, cond, List, length, take, ◌==◌, nat_le, nat_lt}
+use Rattle.std.specs.Prelude.{ℕ, ◌+◌, ◌-◌, ◌%◌, ◌^◌, cond, List, length, take, ◌==◌, nat_le, nat_lt}
 use Rattle.pcap.specs.declared.Said.{Said}
 use Rattle.pcap.specs.declared.Said.TheVariants.{Event, Skipped, Finished, Refused}
 use Rattle.pcap.specs.Captures.{header_bytes, short_record, nothing, step_at}

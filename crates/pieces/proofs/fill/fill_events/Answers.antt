@@ -3,7 +3,7 @@ use Rattle.pcap.specs.declared.Step.{Step}
 use Rattle.pcap.specs.Captures.{step_at}
 use Rattle.pieces.specs.declared.Filled.{Filled}
 use Rattle.pieces.specs.Turns.{calls_again, step_taken, buffer_taken}
-use Rattle.pieces.proofs.Filling.{Result, begins, comes_to, turned, over, turns_left, fewer}
+use Rattle.pieces.proofs.Filling.{Result, turned, over, turns_left, fewer}
 use Rattle.pieces.proofs.fill.fill_events.Goals as goal
 
 pub loop-reader-smaller : goal.loop-reader-smaller
