@@ -17,8 +17,8 @@ returns c =
     let r = window_read p.buffer.now p.out.now p.stream in
     record {
       value =
-        window_answer p.buffer.now p.stream r done.result kept.result c.records_before.result c.wrapping_add_u64.result done.ensures.value
-        kept.ensures.value c.records_before.ensures c.wrapping_add_u64.ensures.value;
+          window_answer p.buffer.now p.stream r done.result kept.result c.records_before.result c.wrapping_add_u64.result done.ensures.value
+          kept.ensures.value c.records_before.ensures c.wrapping_add_u64.ensures.value;
       buffer_after = kept.ensures.buffer_after ∙ ap (λ (d : Filled). settled_buffer p.buffer.now p.stream.have d.at) done.ensures.value;
       out_after = done.ensures.out_after;
     }
