@@ -7,9 +7,9 @@ use settings::Settings;
 
 // Whether the roster of these parts has its stated form. Lists with fewer places than are held are none of a roster.
 pub fn sound(servers: &[u32], states: &[u8], held: usize, settings: Settings) -> bool
-    ensures { result ≡ cond (leb held (length servers.entry.now))
+    ensures { result ≡ cond (leb held (length servers.now))
         (cond (leb held (length states.now))
-        (sound_of (record { servers = servers.entry.now; states = states.now; held = held; settings = settings })) false) false }
+        (sound_of (record { servers = servers.now; states = states.now; held = held; settings = settings })) false) false }
 {
     if held > servers.len() {
         return false;
