@@ -1,15 +1,15 @@
 -- A roster's places in use, lent as parts of its two arrays, are the servers held and their states.
 use Prim.Native.Nat.{ℕ, ◌+◌, ◌≤◌, ◌<◌, min}
 use mathlib.Core.Bool.{Bool, true, false}
-use mathlib.Core.List.{List, [], ◌∷◌}
-use mathlib.Core.Path.{◌≡◌, refl, sym, ap, ◌∙◌}
+use mathlib.Core.List.{List}
+use mathlib.Core.Path.{◌≡◌, sym, ap, ◌∙◌}
 use native.Mathlib.Omega.{arith}
 use lib.Dec.{leb}
 use lib.ListN.{length, take, get_or, drop}
 use lib.Seq.{take_all}
 use borrow.Author.Tests.{leb-true, leb-false}
 use Rattle.sets.specs.Sets.{in_state}
-use Rattle.sets.proofs.Cases.{both, clash}
+use Rattle.sets.proofs.Cases.{both}
 use Rattle.sets.proofs.States.{in_state_here, in_state_other_lem, in_state-end_lem, in_state_short_lem}
 use Rattle.ringplan.specs.Plan.{some}
 
