@@ -4,7 +4,6 @@ use mathlib.Core.List.{List, [], ◌∷◌, ◌++◌, map}
 use mathlib.Core.Path.{◌≡◌, refl, sym, ap, ◌∙◌}
 use native.Mathlib.Numerals.{add-one}
 use native.Mathlib.Omega.{arith}
-use lib.Dec.{leb}
 use lib.ListN.{length, get_or, take, drop, set, replicate, length-map, drop_of_length-le}
 use lib.Seq.{drop-cons, take-suc, take_all, length-take-le, set_at, append_snoc, take_at, get_or-drop, get_or-take}
 use borrow.Author.Tests.{le-leb, lt-leb}

@@ -5,12 +5,12 @@ use mathlib.Core.Bool.{true, false, not, ◌||◌}
 use mathlib.Core.List.{List, [], ◌∷◌, ◌++◌, map}
 use mathlib.Core.Path.{◌≡◌, refl, sym, ap, ◌∙◌}
 use lib.Dec.{eqb, leb}
-use lib.ListN.{length, get_or, take, drop, length-map}
+use lib.ListN.{length, get_or, drop, length-map}
 use lib.Seq.{take_at}
 use Rattle.hash.specs.Hash.{position}
 use Rattle.sets.specs.Sets.{member}
 use Rattle.sets.proofs.Cases.{both, clash, either, or_right, not_so}
-use Rattle.ranking.specs.Ranking.{Strict, choice, outranked, unsafe, pick_of, picked}
+use Rattle.ranking.specs.Ranking.{Strict, choice, outranked, pick_of, picked}
 use Rattle.ranking.specs.Methods.{ring}
 use Rattle.ranking.proofs.Instances.{ring_strict}
 use Rattle.ranking.proofs.Choice.{choice-member, choice_tops, choice_only, outranked_by, outranked-has}
