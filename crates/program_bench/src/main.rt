@@ -11,7 +11,6 @@ mod keys;
 mod words;
 mod work;
 
-use libc::STDERR_FILENO;
 use ring::Entry;
 use roster::Roster;
 use work::{Plan, Work};
@@ -28,6 +27,7 @@ fn zeros() -> [Entry; 64] {
 
 // Each event is written, done and heard.
 fn run(
+    output: &impl Print,
     record: &mut [u8],
     table: &mut [u8],
     rows: &mut [u32],
@@ -45,7 +45,7 @@ fn run(
         work::ask(record, plan, work);
         let out = balancer::event(record, table, rows, flags, ring, roster);
         roster = out.roster;
-        work = work::hear(plan, work, out.reply);
+        work = work::hear(output, plan, work, out.reply);
         if !work.more {
             break;
         }
@@ -54,6 +54,7 @@ fn run(
 
 // The ring's owner. Its parameters are plain, so that whoever calls it is covered.
 fn owner(
+    output: &impl Print,
     record: &mut [u8],
     table: &mut [u8],
     rows: &mut [u32],
@@ -65,15 +66,14 @@ fn owner(
     let mut ring = zeros();
     let out = balancer::start(table, rows, flags, &ring, roster);
     run(
-        record, table, rows, flags, &mut ring, out.roster, plan, work,
+        output, record, table, rows, flags, &mut ring, out.roster, plan, work,
     );
 }
 
-fn main() {
-    let plan = words::plan();
+fn main(rt: HostRuntime) {
+    let plan = words::plan(&rt);
     if !words::fit(plan) {
-        io::write_all(
-            STDERR_FILENO,
+        let _ = rt.stderr().write_all(
             b"usage: bench METHOD SERVERS HORIZON RECORDS PACKETS CHANGES (METHOD 1 to 3, SERVERS up to 64, HORIZON below SERVERS, RECORDS up to 3276)\n",
         );
         return;
@@ -83,6 +83,7 @@ fn main() {
     let mut rows = [0u32; 4096];
     let mut flags = [0u8; 4096];
     owner(
+        &rt,
         &mut record,
         &mut table,
         &mut rows,

@@ -1,18 +1,19 @@
 // The program's words: six numbers.
 use crate::work::Plan;
+use std::rt::Env;
 
 // More than any number that a word may say.
 const TOO_MUCH: u64 = 1000000000000000;
 
 // What the words ask for. A word that is missing or no number counts as too much.
-pub(crate) fn plan() -> Plan {
+pub(crate) fn plan(rt: &impl Env) -> Plan {
     Plan {
-        method: number(1),
-        servers: number(2),
-        horizon: number(3),
-        records: number(4),
-        packets: number(5),
-        changes: number(6),
+        method: number(rt, 1),
+        servers: number(rt, 2),
+        horizon: number(rt, 3),
+        records: number(rt, 4),
+        packets: number(rt, 5),
+        changes: number(rt, 6),
     }
 }
 
@@ -40,9 +41,9 @@ pub(crate) fn fit(p: Plan) -> bool {
 }
 
 // The number that a word says.
-fn number(i: usize) -> u64 {
+fn number(rt: &impl Env, i: usize) -> u64 {
     let mut word = [0u8; 16];
-    let n = os::arg(i, &mut word);
+    let n = rt.arg(i, &mut word).unwrap_or(0);
     value(word, n)
 }
 

@@ -1,7 +1,6 @@
 // The work: which event comes next, and what becomes of it when the reply is heard.
 use crate::keys;
 use answers::ReplyNumbers;
-use libc::STDOUT_FILENO;
 use rules::Reply;
 
 // What the program's words ask for.
@@ -102,17 +101,17 @@ fn working(p: Plan) -> u64 {
 }
 
 // The work behind a reply: it is tallied, and the next event comes, or the next phase where this one has no more.
-pub(crate) fn hear(p: Plan, w: Work, reply: Reply) -> Work {
+pub(crate) fn hear(output: &impl Print, p: Plan, w: Work, reply: Reply) -> Work {
     let v = tallied(w, answers::numbers(reply));
     let phase = v.phase;
     match phase {
         Phase::Configuring => with(v, Phase::Adding, 0),
         Phase::Adding => added(p, v),
-        Phase::Starting => started(p, v),
-        Phase::Filling => keyed(p, v),
-        Phase::Sending => drawn(p, v),
+        Phase::Starting => started(output, p, v),
+        Phase::Filling => keyed(output, p, v),
+        Phase::Sending => drawn(output, p, v),
         Phase::Joining => with(v, Phase::Leaving, less(v.done)),
-        Phase::Leaving => changing(p, v),
+        Phase::Leaving => changing(output, p, v),
     }
 }
 
@@ -161,20 +160,20 @@ fn less(n: u64) -> u64 {
 }
 
 // One key more was sent.
-fn keyed(p: Plan, w: Work) -> Work {
+fn keyed(output: &impl Print, p: Plan, w: Work) -> Work {
     let mut v = w;
     v.keys = more_if(true, w.keys);
-    filling(p, v)
+    filling(output, p, v)
 }
 
 // The generator goes on, and packets are sent until all are.
-fn drawn(p: Plan, w: Work) -> Work {
+fn drawn(output: &impl Print, p: Plan, w: Work) -> Work {
     let mut v = w;
     v.x = keys::next(w.x);
     if v.done < p.packets {
         return v;
     }
-    sent(p, v)
+    sent(output, p, v)
 }
 
 // Servers are added until all are held.
@@ -186,54 +185,54 @@ fn added(p: Plan, w: Work) -> Work {
 }
 
 // Servers are put to work until just the horizon is left.
-fn started(p: Plan, w: Work) -> Work {
+fn started(output: &impl Print, p: Plan, w: Work) -> Work {
     if w.done < working(p) {
         return w;
     }
-    filling(p, with(w, Phase::Filling, 0))
+    filling(output, p, with(w, Phase::Filling, 0))
 }
 
 // New keys are sent until so many records are used, or 100,000 keys were sent. Then packets of those keys.
-fn filling(p: Plan, w: Work) -> Work {
+fn filling(output: &impl Print, p: Plan, w: Work) -> Work {
     if w.tally.used < p.records {
         if w.keys < 100000 {
             return w;
         }
     }
-    line(b"filled ", w);
+    line(output, b"filled ", w);
     let v = with(w, Phase::Sending, 0);
     if p.packets > 0 {
         return v;
     }
-    sent(p, v)
+    sent(output, p, v)
 }
 
 // All packets are sent.
-fn sent(p: Plan, w: Work) -> Work {
-    line(b"packets ", w);
-    changing(p, with(w, Phase::Leaving, 0))
+fn sent(output: &impl Print, p: Plan, w: Work) -> Work {
+    line(output, b"packets ", w);
+    changing(output, p, with(w, Phase::Leaving, 0))
 }
 
 // The first server of the horizon goes to work and leaves it, so many times. Then nothing is left to do.
-fn changing(p: Plan, w: Work) -> Work {
+fn changing(output: &impl Print, p: Plan, w: Work) -> Work {
     if w.done < p.changes {
         return with(w, Phase::Joining, w.done);
     }
-    line(b"changes ", w);
+    line(output, b"changes ", w);
     let mut v = w;
     v.more = false;
     v
 }
 
 // Prints a line: a part's name, the checksum so far, used records, keys sent, refusals.
-fn line(part: &[u8], w: Work) {
-    io::write_all(STDOUT_FILENO, part);
-    io::print_decimal(STDOUT_FILENO, w.tally.sum);
-    io::write_all(STDOUT_FILENO, b" ");
-    io::print_decimal(STDOUT_FILENO, w.tally.used);
-    io::write_all(STDOUT_FILENO, b" ");
-    io::print_decimal(STDOUT_FILENO, w.keys);
-    io::write_all(STDOUT_FILENO, b" ");
-    io::print_decimal(STDOUT_FILENO, w.tally.refused);
-    io::write_all(STDOUT_FILENO, b"\n");
+fn line(output: &impl Print, part: &[u8], w: Work) {
+    let _ = output.write_all(part);
+    let _ = output.print(w.tally.sum);
+    let _ = output.write_all(b" ");
+    let _ = output.print(w.tally.used);
+    let _ = output.write_all(b" ");
+    let _ = output.print(w.keys);
+    let _ = output.write_all(b" ");
+    let _ = output.print(w.tally.refused);
+    let _ = output.write_all(b"\n");
 }

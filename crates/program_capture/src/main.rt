@@ -1,5 +1,6 @@
 // The capture program: a capture on standard input becomes event records on standard output; a line on standard error says
-// how many packets there were, and why some were skipped. Memory is constant, however long the capture is.
+// how many packets there were, and why some were skipped. Memory is constant, however long the capture is. Once nobody reads
+// the events any more it ends with no line, and with the status that the signal PIPE would give.
 
 #![tactic(auto)]
 
@@ -7,12 +8,21 @@ ghost use Rattle.std.specs.Prelude.{◌≡◌, ◌-◌, ◌≤◌};
 
 mod report;
 
-use libc::{STDIN_FILENO, STDOUT_FILENO};
 use pcap::Said;
 use pieces::Stream;
+use std::io::{ErrorKind, Read};
+use std::process::ExitCode;
 
 // The most pieces that are read.
 const PIECES: u64 = 1000000000000;
+
+// Whether standard output took every event: all, not all, or none any more, since nobody reads it.
+#[derive(Clone, Copy)]
+pub enum Written {
+    All,
+    NotAll,
+    Unread,
+}
 
 // How far a run is: what has come of the capture, whether standard input could be read and standard output took every event,
 // and how many pieces may still come.
@@ -20,7 +30,7 @@ const PIECES: u64 = 1000000000000;
 pub struct Progress {
     pub stream: Stream,
     pub read: bool,
-    pub written: bool,
+    pub written: Written,
     pub left: u64,
 }
 
@@ -32,45 +42,58 @@ pub struct Piece {
 }
 
 // Reads the capture piece by piece until it ends, or can't be read on.
-fn run(buffer: &mut [u8], out: &mut [u8]) -> Progress {
-    let mut now = so_far(pieces::begin(), true, true, PIECES);
+fn run(input: &mut impl Read, output: &impl Print, buffer: &mut [u8], out: &mut [u8]) -> Progress {
+    let mut now = so_far(pieces::begin(), true, Written::All, PIECES);
     while now.left > 0 {
-        now = turn(buffer, out, now);
+        now = turn(input, output, buffer, out, now);
     }
     now
 }
 
 // Reads a piece, and writes what it completes before the next one is read.
-fn turn(buffer: &mut [u8], out: &mut [u8], now: Progress) -> Progress
+fn turn(
+    input: &mut impl Read,
+    output: &impl Print,
+    buffer: &mut [u8],
+    out: &mut [u8],
+    now: Progress,
+) -> Progress
     ensures { result.left ≤ now.left - 1 }
 {
     let stream = now.stream;
-    let piece = fetch(buffer, stream);
+    let piece = fetch(input, buffer, stream);
     if piece.failed {
-        return so_far(stream, false, true, 0);
+        return so_far(stream, false, Written::All, 0);
     }
     if piece.got == 0 {
-        return so_far(stream, true, true, 0);
+        return so_far(stream, true, Written::All, 0);
     }
-    complete(buffer, out, now, piece.got)
+    complete(output, buffer, out, now, piece.got)
 }
 
 // Takes a piece in, and writes the events that it completes.
-fn complete(buffer: &mut [u8], out: &mut [u8], now: Progress, got: usize) -> Progress
+fn complete(
+    output: &impl Print,
+    buffer: &mut [u8],
+    out: &mut [u8],
+    now: Progress,
+    got: usize,
+) -> Progress
     ensures { result.left ≤ now.left - 1 }
 {
     let stream = now.stream;
     let more = pieces::advance(buffer, out, stream, got);
     let next = more.stream;
     let said = next.said;
-    if !write(out, more.filled) {
-        return so_far(next, true, false, 0);
+    let written = write(output, out, more.filled);
+    match written {
+        Written::All => so_far(next, true, written, pieces_left(now.left, said)),
+        _ => so_far(next, true, written, 0),
     }
-    so_far(next, true, true, pieces_left(now.left, said))
 }
 
 // How far a run is.
-fn so_far(stream: Stream, read: bool, written: bool, left: u64) -> Progress
+fn so_far(stream: Stream, read: bool, written: Written, left: u64) -> Progress
     ensures { result.left ≡ left }
 {
     Progress {
@@ -82,7 +105,7 @@ fn so_far(stream: Stream, read: bool, written: bool, left: u64) -> Progress
 }
 
 // Reads once, behind the window and no further than a packet that is passed over.
-fn fetch(buffer: &mut [u8], stream: Stream) -> Piece {
+fn fetch(input: &mut impl Read, buffer: &mut [u8], stream: Stream) -> Piece {
     let have = stream.have;
     let pass = stream.pass;
     if have > buffer.len() {
@@ -92,20 +115,25 @@ fn fetch(buffer: &mut [u8], stream: Stream) -> Piece {
         };
     }
     if pass == 0 {
-        return read(&mut buffer[have..]);
+        return read(input, &mut buffer[have..]);
     }
     if pass > buffer.len() - have {
-        return read(&mut buffer[have..]);
+        return read(input, &mut buffer[have..]);
     }
-    read(&mut buffer[have..have + pass])
+    read(input, &mut buffer[have..have + pass])
 }
 
 // One read into a span.
-fn read(span: &mut [u8]) -> Piece {
-    let got = libc::read(STDIN_FILENO, span);
-    Piece {
-        got: io::count(got, span),
-        failed: got < 0,
+fn read(input: &mut impl Read, span: &mut [u8]) -> Piece {
+    match input.read(span) {
+        Ok(got) => Piece {
+            got: got,
+            failed: false,
+        },
+        Err(_) => Piece {
+            got: 0,
+            failed: true,
+        },
     }
 }
 
@@ -138,18 +166,33 @@ fn after_refusal(left: u64, number: u8) -> u64
 }
 
 // Writes the first bytes of a buffer; whether all were taken.
-fn write(out: &[u8], filled: usize) -> bool {
+fn write(output: &impl Print, out: &[u8], filled: usize) -> Written {
     if filled > out.len() {
-        return false;
+        return Written::NotAll;
     }
-    io::write_all(STDOUT_FILENO, &out[..filled])
+    match output.write_all(&out[..filled]) {
+        Ok(()) => Written::All,
+        Err(e) => {
+            if e.kind() == ErrorKind::BrokenPipe {
+                return Written::Unread;
+            }
+            Written::NotAll
+        }
+    }
 }
 
 // Both buffers have one length, whatever the capture's is. The second is twice as long, which is room for all events of the
 // first.
-fn main() {
+fn main(rt: HostRuntime) -> ExitCode {
+    let mut input = rt.stdin();
     let mut buffer = [0u8; 65536];
     let mut out = [0u8; 131072];
-    let done = run(&mut buffer, &mut out);
-    report::say(&buffer, done);
+    let done = run(&mut input, &rt, &mut buffer, &mut out);
+    match done.written {
+        Written::Unread => ExitCode::from(141),
+        _ => {
+            report::say(&rt.stderr(), &buffer, done);
+            ExitCode::SUCCESS
+        }
+    }
 }

@@ -20,34 +20,34 @@ mod say;
 mod shares;
 
 // What every one of 20,000 keys gets, by each method.
-fn over_keys() {
+fn over_keys(output: &impl Print) {
     let mut points = [0u32; 20000];
     keys::points(&mut points);
-    evenness::of(&points, 1);
-    evenness::of(&points, 0);
-    shares::all(&points);
+    evenness::of(output, &points, 1);
+    evenness::of(output, &points, 0);
+    shares::all(output, &points);
 }
 
 // What sessions meet, packet by packet, at a table of 3,276 records.
-fn over_sessions() {
+fn over_sessions(output: &impl Print) {
     let mut table = [0u8; table::MOST_TABLE_BYTES];
     let mut few = [0u32; 3000];
     let mut more = [0u32; 8000];
-    rounds::turns(&mut table, &mut few, 15, 10);
-    rounds::turns(&mut table, &mut few, 14, 10);
-    rounds::turns(&mut table, &mut few, 12, 10);
-    rounds::turns(&mut table, &mut more, 15, 1);
+    rounds::turns(output, &mut table, &mut few, 15, 10);
+    rounds::turns(output, &mut table, &mut few, 14, 10);
+    rounds::turns(output, &mut table, &mut few, 12, 10);
+    rounds::turns(output, &mut table, &mut more, 15, 1);
     let mut margin = [0u32; 24954];
     let mut mean = [0u32; 26208];
     let mut above = [0u32; 28000];
     let mut most = [0u32; 30000];
-    rounds::joins(&mut table, &mut margin);
-    rounds::joins(&mut table, &mut mean);
-    rounds::joins(&mut table, &mut above);
-    rounds::joins(&mut table, &mut most);
+    rounds::joins(output, &mut table, &mut margin);
+    rounds::joins(output, &mut table, &mut mean);
+    rounds::joins(output, &mut table, &mut above);
+    rounds::joins(output, &mut table, &mut most);
 }
 
-fn main() {
-    over_keys();
-    over_sessions();
+fn main(rt: HostRuntime) {
+    over_keys(&rt);
+    over_sessions(&rt);
 }

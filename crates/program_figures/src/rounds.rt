@@ -23,6 +23,7 @@ fn change(
 // So many rounds, and of each four numbers: used records, sessions that found no room, sessions that moved although their mover
 // worked, sessions whose mover had left work.
 fn show(
+    output: &impl Print,
     table: &mut [u8],
     servers: &[u32],
     states: &mut [u8],
@@ -34,16 +35,17 @@ fn show(
     let mut k = 0;
     while k < rounds {
         let sent = door::round(table, servers, states, last);
-        say::number(say::low(table::used(table)));
-        say::three(sent.no_room, sent.moved, sent.left);
+        say::number(output, say::low(table::used(table)));
+        say::three(output, sent.no_room, sent.moved, sent.left);
         change(table, servers, states, joining, k, turns);
         k += 1;
     }
-    say::end();
+    say::end(output);
 }
 
 // A draw's line: working, horizon, sessions; then the rounds.
 fn line(
+    output: &impl Print,
     table: &mut [u8],
     servers: &[u32],
     last: &mut [u32],
@@ -55,8 +57,9 @@ fn line(
     numbers::states(&mut states, working as usize);
     table::start(table);
     door::forget(last);
-    say::three(working, 16 - working % 17, say::low(last.len()));
+    say::three(output, working, 16 - working % 17, say::low(last.len()));
     show(
+        output,
         table,
         servers,
         &mut states,
@@ -68,22 +71,28 @@ fn line(
 }
 
 // 16 movers that take turns, of which so many work: a line of 21 rounds for each draw of their numbers.
-pub(crate) fn turns(table: &mut [u8], last: &mut [u32], working: u32, draws: u32) {
+pub(crate) fn turns(
+    output: &impl Print,
+    table: &mut [u8],
+    last: &mut [u32],
+    working: u32,
+    draws: u32,
+) {
     let mut servers = [0u32; MOVERS];
     let mut x = numbers::start(1);
     let mut draw: u32 = 0;
     while draw < draws {
         x = numbers::draw(&mut servers, 1, x);
-        say::word(b"turns");
-        line(table, &servers, last, working, 21, true);
+        say::word(output, b"turns");
+        line(output, table, &servers, last, working, 21, true);
         draw += 1;
     }
 }
 
 // 14 movers at work; the two that stand by join one after the other, and nobody leaves.
-pub(crate) fn joins(table: &mut [u8], last: &mut [u32]) {
+pub(crate) fn joins(output: &impl Print, table: &mut [u8], last: &mut [u32]) {
     let mut servers = [0u32; MOVERS];
     numbers::draw(&mut servers, 1, numbers::start(1));
-    say::word(b"joins");
-    line(table, &servers, last, 14, 3, false);
+    say::word(output, b"joins");
+    line(output, table, &servers, last, 14, 3, false);
 }

@@ -1,33 +1,32 @@
 // Numbers on standard output.
-use libc::STDOUT_FILENO;
 
 // One character.
-fn letter(c: u8) {
+fn letter(output: &impl Print, c: u8) {
     let one = [c];
-    io::write_all(STDOUT_FILENO, &one);
+    let _ = output.write_all(&one);
 }
 
 // A space, and a number.
-pub(crate) fn number(n: u32) {
-    letter(b' ');
-    io::print_decimal(STDOUT_FILENO, n as u64);
+pub(crate) fn number(output: &impl Print, n: u32) {
+    letter(output, b' ');
+    let _ = output.print(n);
 }
 
 // Three numbers.
-pub(crate) fn three(a: u32, b: u32, c: u32) {
-    number(a);
-    number(b);
-    number(c);
+pub(crate) fn three(output: &impl Print, a: u32, b: u32, c: u32) {
+    number(output, a);
+    number(output, b);
+    number(output, c);
 }
 
 // A word that begins a line.
-pub(crate) fn word(text: &[u8]) {
-    io::write_all(STDOUT_FILENO, text);
+pub(crate) fn word(output: &impl Print, text: &[u8]) {
+    let _ = output.write_all(text);
 }
 
 // A line ends.
-pub(crate) fn end() {
-    letter(10);
+pub(crate) fn end(output: &impl Print) {
+    letter(output, 10);
 }
 
 // A number as 32 bits.

@@ -2,7 +2,7 @@
 // input in its first HALF bytes and the text behind them.
 ghost use Rattle.std.specs.Prelude.{◌≡◌, ◌+◌, ◌-◌, ◌≤◌, length};
 
-use libc::{STDIN_FILENO, STDOUT_FILENO};
+use std::io::{ErrorKind, Read};
 
 // Where the text begins.
 pub(crate) const HALF: usize = 65536;
@@ -11,7 +11,8 @@ pub(crate) const HALF: usize = 65536;
 pub(crate) const LAST: u64 = 1000000000000;
 
 // A record's bytes are at..to of the buffer. Those up to end are still to be done, and the text up to `filled` is still to
-// be written. Up to `left` events are to come, this one among them: none where the input has ended.
+// be written. Up to `left` events are to come, this one among them: none where the input has ended, or where the text is
+// `unread`, since nobody reads standard output any more.
 #[derive(Clone, Copy)]
 pub struct Place {
     pub at: usize,
@@ -19,6 +20,7 @@ pub struct Place {
     pub end: usize,
     pub filled: usize,
     pub left: u64,
+    pub unread: bool,
 }
 
 // No record: no input stands in the buffer, and no text.
@@ -31,11 +33,31 @@ pub(crate) fn nowhere(left: u64) -> Place
         end: 0,
         filled: HALF,
         left: left,
+        unread: false,
+    }
+}
+
+// Nothing more is to be done: nobody reads the text.
+pub(crate) fn unheard() -> Place
+    ensures { (result.left ≡ 0) × ((result.at ≡ 0) × (result.to ≡ 0)) }
+{
+    Place {
+        at: 0,
+        to: 0,
+        end: 0,
+        filled: HALF,
+        left: 0,
+        unread: true,
     }
 }
 
 // The next record. Where the block has no whole one left, the text is written and more is read.
-pub(crate) fn find(buffer: &mut [u8], place: Place) -> Place
+pub(crate) fn find(
+    input: &mut impl Read,
+    output: &impl Print,
+    buffer: &mut [u8],
+    place: Place,
+) -> Place
     ensures { (result.left ≤ place.left - 1) × ((result.at ≤ result.to) × (result.to ≤ length buffer.new)) }
 {
     let from = place.to;
@@ -51,24 +73,27 @@ pub(crate) fn find(buffer: &mut [u8], place: Place) -> Place
                         end: end,
                         filled: place.filled,
                         left: left - 1,
+                        unread: false,
                     };
                 }
             }
         }
     }
-    write(buffer, place.filled);
+    if !write(output, buffer, place.filled) {
+        return unheard();
+    }
     if left <= 1 {
         return nowhere(0);
     }
-    fetch(buffer, from, end, left - 1)
+    fetch(input, buffer, from, end, left - 1)
 }
 
 // The first record of a new block, which begins with the bytes from..end of the last one.
-fn fetch(buffer: &mut [u8], from: usize, end: usize, left: u64) -> Place
+fn fetch(input: &mut impl Read, buffer: &mut [u8], from: usize, end: usize, left: u64) -> Place
     ensures { (result.left ≤ left) × ((result.at ≤ result.to) × (result.to ≤ length buffer.new)) }
 {
     let kept = carry(buffer, from, end);
-    let have = fill(buffer, kept);
+    let have = fill(input, buffer, kept);
     if have == 0 {
         return nowhere(0);
     }
@@ -78,16 +103,21 @@ fn fetch(buffer: &mut [u8], from: usize, end: usize, left: u64) -> Place
         end: have,
         filled: HALF,
         left: left,
+        unread: false,
     }
 }
 
-// Writes the text.
-pub(crate) fn write(buffer: &[u8], filled: usize) {
+// Writes the text; whether somebody may still read it. Text that is not taken for another reason, as by a full disk, is lost.
+pub(crate) fn write(output: &impl Print, buffer: &[u8], filled: usize) -> bool {
     if filled <= buffer.len() {
         if HALF <= filled {
-            io::write_all(STDOUT_FILENO, &buffer[HALF..filled]);
+            return match output.write_all(&buffer[HALF..filled]) {
+                Ok(()) => true,
+                Err(e) => e.kind() != ErrorKind::BrokenPipe,
+            };
         }
     }
+    true
 }
 
 // Moves the bytes from..end, which are less than a record, to the front, and says how many they are.
@@ -113,7 +143,7 @@ fn carry(buffer: &mut [u8], from: usize, end: usize) -> usize
 }
 
 // Reads behind the first `kept` bytes until there is a record or the input ends, and says how many bytes there are then.
-fn fill(buffer: &mut [u8], kept: usize) -> usize
+fn fill(input: &mut impl Read, buffer: &mut [u8], kept: usize) -> usize
     requires { kept ≤ 16 }
     ensures { result ≤ length buffer.new }
 {
@@ -122,7 +152,7 @@ fn fill(buffer: &mut [u8], kept: usize) -> usize
     }
     let mut have = kept;
     while have < 16 {
-        let got = read_behind(buffer, have);
+        let got = read_behind(input, buffer, have);
         if got == 0 {
             break;
         }
@@ -131,14 +161,13 @@ fn fill(buffer: &mut [u8], kept: usize) -> usize
     have
 }
 
-// One read behind the first `have` bytes; how many bytes it got.
-fn read_behind(buffer: &mut [u8], have: usize) -> usize
+// One read behind the first `have` bytes; how many bytes it got, none where it failed.
+fn read_behind(input: &mut impl Read, buffer: &mut [u8], have: usize) -> usize
     requires { (have ≤ 16) × (65536 ≤ length buffer.old) }
     ensures { have + result ≤ 65536 }
 {
     let behind: &mut [u8] = &mut buffer[have..HALF];
-    let got = libc::read(STDIN_FILENO, behind);
-    io::count(got, behind)
+    input.read(behind).unwrap_or(0)
 }
 
 // The lower of two counts.

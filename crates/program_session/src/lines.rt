@@ -4,11 +4,20 @@ ghost use Rattle.std.specs.Prelude.{◌-◌, ◌≤◌, length};
 use crate::blocks;
 use crate::blocks::{HALF, LAST, Place};
 use answers::ReplyNumbers;
+use itoa::Buffer;
 use rules::Reply;
+use std::io::Read;
 
 // Puts the line for a record's answer behind the text, and finds the next record. Text that has no room for the line is
 // written first.
-pub(crate) fn next(buffer: &mut [u8], table: &[u8], place: Place, reply: Reply) -> Place
+pub(crate) fn next(
+    input: &mut impl Read,
+    output: &impl Print,
+    buffer: &mut [u8],
+    table: &[u8],
+    place: Place,
+    reply: Reply,
+) -> Place
     ensures { (result.left ≤ place.left - 1) × ((result.at ≤ result.to) × (result.to ≤ length buffer.new)) }
 {
     let at = place.at;
@@ -16,7 +25,10 @@ pub(crate) fn next(buffer: &mut [u8], table: &[u8], place: Place, reply: Reply) 
         return blocks::nowhere(0);
     }
     let kind = wide(buffer[at]);
-    let from = with_room(buffer, place.filled);
+    let from = match with_room(output, buffer, place.filled) {
+        Some(from) => from,
+        None => return blocks::unheard(),
+    };
     let behind = line(
         buffer,
         from,
@@ -26,6 +38,8 @@ pub(crate) fn next(buffer: &mut [u8], table: &[u8], place: Place, reply: Reply) 
         table::used(table) as u64,
     );
     blocks::find(
+        input,
+        output,
         buffer,
         Place {
             at: at,
@@ -33,19 +47,22 @@ pub(crate) fn next(buffer: &mut [u8], table: &[u8], place: Place, reply: Reply) 
             end: place.end,
             filled: behind,
             left: place.left,
+            unread: false,
         },
     )
 }
 
-// Where a line may start: behind the text, or at its front once that is written.
-fn with_room(buffer: &[u8], filled: usize) -> usize {
+// Where a line may start: behind the text, or at its front once that is written; nowhere if nobody reads it.
+fn with_room(output: &impl Print, buffer: &[u8], filled: usize) -> Option<usize> {
     if buffer.len() >= 160 {
         if filled <= buffer.len() - 160 {
-            return filled;
+            return Some(filled);
         }
     }
-    blocks::write(buffer, filled);
-    HALF
+    if !blocks::write(output, buffer, filled) {
+        return None;
+    }
+    Some(HALF)
 }
 
 // The number of the event from which on so many are to come.
@@ -92,8 +109,9 @@ fn put(buffer: &mut [u8], at: usize, number: u64, behind: u8) -> usize {
     if at > buffer.len() - 21 {
         return at;
     }
-    let mut digits = [0u8; 20];
-    let n = io::decimal(number, &mut digits);
+    let mut room = Buffer::new();
+    let digits = room.format(number).as_bytes();
+    let n = digits.len();
     if n > 20 {
         return at;
     }

@@ -1,5 +1,6 @@
 // The session program: reads event records of 16 bytes on standard input and prints a line for each. It reads and writes
-// in large blocks: what a read returns is answered, and the answers are written, before it reads again.
+// in large blocks: what a read returns is answered, and the answers are written, before it reads again. Once nobody reads
+// them any more it ends, with the status that the signal PIPE would give.
 
 #![tactic(auto)]
 
@@ -11,6 +12,8 @@ mod lines;
 use blocks::{LAST, Place};
 use ring::Entry;
 use roster::Roster;
+use std::io::Read;
+use std::process::ExitCode;
 
 // A ring of zeros.
 fn zeros() -> [Entry; 64] {
@@ -22,8 +25,10 @@ fn zeros() -> [Entry; 64] {
     [e; 64]
 }
 
-// Each record is done and answered, and the next one found.
+// Each record is done and answered, and the next one found. Whether nobody reads the answers any more.
 fn run(
+    input: &mut impl Read,
+    output: &impl Print,
     buffer: &mut [u8],
     table: &mut [u8],
     rows: &mut [u32],
@@ -31,7 +36,7 @@ fn run(
     ring: &mut [Entry],
     mut roster: Roster,
     mut place: Place,
-)
+) -> bool
     requires { (place.at ≤ place.to) × (place.to ≤ length buffer.old) }
 {
     while place.left > 0 {
@@ -44,33 +49,41 @@ fn run(
             roster,
         );
         roster = out.roster;
-        place = lines::next(buffer, table, place, out.reply);
+        place = lines::next(input, output, buffer, table, place, out.reply);
     }
+    place.unread
 }
 
 // The ring's owner. Its parameters are plain, so that whoever calls it is covered.
 fn owner(
+    input: &mut impl Read,
+    output: &impl Print,
     buffer: &mut [u8],
     table: &mut [u8],
     rows: &mut [u32],
     flags: &mut [u8],
     roster: Roster,
     first: Place,
-)
+) -> bool
     requires { (first.at ≤ first.to) × (first.to ≤ length buffer.old) }
 {
     let mut ring = zeros();
     let out = balancer::start(table, rows, flags, &ring, roster);
-    run(buffer, table, rows, flags, &mut ring, out.roster, first);
+    run(
+        input, output, buffer, table, rows, flags, &mut ring, out.roster, first,
+    )
 }
 
-fn main() {
+fn main(rt: HostRuntime) -> ExitCode {
+    let mut input = rt.stdin();
     let mut buffer = [0u8; 131072];
     let mut table = [0u8; 65520];
     let mut rows = [0u32; 4096];
     let mut flags = [0u8; 4096];
-    let first = blocks::find(&mut buffer, blocks::nowhere(LAST + 1));
-    owner(
+    let first = blocks::find(&mut input, &rt, &mut buffer, blocks::nowhere(LAST + 1));
+    let unread = owner(
+        &mut input,
+        &rt,
         &mut buffer,
         &mut table,
         &mut rows,
@@ -78,4 +91,8 @@ fn main() {
         roster::empty(),
         first,
     );
+    if unread {
+        return ExitCode::from(141);
+    }
+    ExitCode::SUCCESS
 }

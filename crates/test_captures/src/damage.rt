@@ -6,33 +6,33 @@ use crate::{numbers, text};
 const SMALL: usize = 240;
 
 // The lines for a small capture's beginnings and changed bytes.
-pub(crate) fn damaged(capture: &mut [u8], out: &mut [u8]) {
+pub(crate) fn damaged(output: &impl Print, capture: &mut [u8], out: &mut [u8]) {
     if capture.len() > SMALL {
         return;
     }
-    prefixes(capture, out);
-    changed(capture, out);
+    prefixes(output, capture, out);
+    changed(output, capture, out);
 }
 
 // A line for each beginning of a capture.
-fn prefixes(capture: &[u8], out: &mut [u8]) {
+fn prefixes(output: &impl Print, capture: &[u8], out: &mut [u8]) {
     let mut n = 0;
     while n <= capture.len() {
-        text::start(b"prefix");
-        text::number(n as u64);
-        numbers::print(numbers::come_to(&capture[..n], out));
+        text::start(output, b"prefix");
+        text::number(output, n as u64);
+        numbers::print(output, numbers::come_to(&capture[..n], out));
         n += 1;
     }
 }
 
 // A line for each byte of a capture: all its other values, in one digest.
-fn changed(capture: &mut [u8], out: &mut [u8]) {
+fn changed(output: &impl Print, capture: &mut [u8], out: &mut [u8]) {
     let mut i = 0;
     while i < capture.len() {
-        text::start(b"changed");
-        text::number(i as u64);
-        text::number(others(capture, i, out));
-        text::end();
+        text::start(output, b"changed");
+        text::number(output, i as u64);
+        text::number(output, others(capture, i, out));
+        text::end(output);
         i += 1;
     }
 }

@@ -9,25 +9,38 @@ use pieces::Stream;
 const TWO_CUTS: usize = 240;
 
 // A line for each length of the buffer.
-pub(crate) fn buffers(capture: &[u8], whole: Numbers, buffer: &mut [u8], out: &mut [u8]) {
-    ways(capture, whole, buffer, out, 129);
-    ways(capture, whole, buffer, out, 150);
-    ways(capture, whole, buffer, out, 400);
+pub(crate) fn buffers(
+    output: &impl Print,
+    capture: &[u8],
+    whole: Numbers,
+    buffer: &mut [u8],
+    out: &mut [u8],
+) {
+    ways(output, capture, whole, buffer, out, 129);
+    ways(output, capture, whole, buffer, out, 150);
+    ways(output, capture, whole, buffer, out, 400);
 }
 
 // In how many ways a capture comes to the same, with a buffer of some length.
-fn ways(capture: &[u8], whole: Numbers, buffer: &mut [u8], out: &mut [u8], len: usize) {
+fn ways(
+    output: &impl Print,
+    capture: &[u8],
+    whole: Numbers,
+    buffer: &mut [u8],
+    out: &mut [u8],
+    len: usize,
+) {
     if len > buffer.len() {
         return;
     }
     let part: &mut [u8] = &mut buffer[..len];
     let some = sizes(capture, whole, part, out);
     let more = cuts(capture, whole, part, out);
-    text::start(b"pieces");
-    text::number(len as u64);
-    io::write_all(libc::STDOUT_FILENO, b" ways");
-    text::number(std::num::wrapping_add_u64(some, more));
-    text::end();
+    text::start(output, b"pieces");
+    text::number(output, len as u64);
+    let _ = output.write_all(b" ways");
+    text::number(output, std::num::wrapping_add_u64(some, more));
+    text::end(output);
 }
 
 // Pieces of one length, for each length: in how many the capture comes to the same.

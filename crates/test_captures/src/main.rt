@@ -8,10 +8,8 @@ mod handing;
 mod numbers;
 mod text;
 
-use libc::STDIN_FILENO;
-
 // All captures of the input, one after the other.
-fn each(input: &mut [u8], have: usize, buffer: &mut [u8], out: &mut [u8]) {
+fn each(output: &impl Print, input: &mut [u8], have: usize, buffer: &mut [u8], out: &mut [u8]) {
     let mut at = 0;
     let mut left = have;
     while left >= 4 {
@@ -19,7 +17,7 @@ fn each(input: &mut [u8], have: usize, buffer: &mut [u8], out: &mut [u8]) {
         if size > left - 4 {
             return;
         }
-        one(input, at + 4, size, buffer, out);
+        one(output, input, at + 4, size, buffer, out);
         at += 4 + size;
         left -= 4 + size;
     }
@@ -37,7 +35,14 @@ fn length_at(input: &[u8], at: usize) -> usize {
 }
 
 // One capture: its bytes stand from `at` on.
-fn one(input: &mut [u8], at: usize, size: usize, buffer: &mut [u8], out: &mut [u8]) {
+fn one(
+    output: &impl Print,
+    input: &mut [u8],
+    at: usize,
+    size: usize,
+    buffer: &mut [u8],
+    out: &mut [u8],
+) {
     if at > input.len() {
         return;
     }
@@ -46,16 +51,16 @@ fn one(input: &mut [u8], at: usize, size: usize, buffer: &mut [u8], out: &mut [u
     }
     let capture: &mut [u8] = &mut input[at..at + size];
     let whole = numbers::come_to(capture, out);
-    text::start(b"whole");
-    numbers::print(whole);
-    damage::damaged(capture, out);
-    handing::buffers(capture, whole, buffer, out);
+    text::start(output, b"whole");
+    numbers::print(output, whole);
+    damage::damaged(output, capture, out);
+    handing::buffers(output, capture, whole, buffer, out);
 }
 
-fn main() {
+fn main(rt: HostRuntime) {
     let mut input = [0u8; 65536];
     let mut buffer = [0u8; 2048];
     let mut out = [0u8; 16384];
-    let have = io::read_full(STDIN_FILENO, &mut input);
-    each(&mut input, have, &mut buffer, &mut out);
+    let have = inputs::read_full(&mut rt.stdin(), &mut input);
+    each(&rt, &mut input, have, &mut buffer, &mut out);
 }

@@ -63,19 +63,19 @@ pub(crate) fn step(h: u64, n: u64) -> u64 {
 }
 
 // The numbers behind a word, and the line's end.
-pub(crate) fn print(n: Numbers) {
+pub(crate) fn print(output: &impl Print, n: Numbers) {
     let t = n.tally;
-    text::number(t.read);
-    text::number(t.emitted);
-    text::number(t.linktype);
-    text::number(t.notipv4);
-    text::number(t.fragment);
-    text::number(t.other);
-    text::number(t.short);
-    text::number(n.refusal as u64);
-    text::number(n.at);
-    text::number(n.digest);
-    text::end();
+    text::number(output, t.read);
+    text::number(output, t.emitted);
+    text::number(output, t.linktype);
+    text::number(output, t.notipv4);
+    text::number(output, t.fragment);
+    text::number(output, t.other);
+    text::number(output, t.short);
+    text::number(output, n.refusal as u64);
+    text::number(output, n.at);
+    text::number(output, n.digest);
+    text::end(output);
 }
 
 // A digest with all the numbers taken in.

@@ -1,18 +1,17 @@
 // Lines on standard output.
-use libc::STDOUT_FILENO;
 
 // Begins a line with a word.
-pub(crate) fn start(word: &[u8]) {
-    io::write_all(STDOUT_FILENO, word);
+pub(crate) fn start(output: &impl Print, word: &[u8]) {
+    let _ = output.write_all(word);
 }
 
 // A number behind a space.
-pub(crate) fn number(n: u64) {
-    io::write_all(STDOUT_FILENO, b" ");
-    io::print_decimal(STDOUT_FILENO, n);
+pub(crate) fn number(output: &impl Print, n: u64) {
+    let _ = output.write_all(b" ");
+    let _ = output.print(n);
 }
 
 // Ends a line.
-pub(crate) fn end() {
-    io::write_all(STDOUT_FILENO, b"\n");
+pub(crate) fn end(output: &impl Print) {
+    let _ = output.write_all(b"\n");
 }

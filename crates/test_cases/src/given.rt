@@ -42,6 +42,7 @@ fn changed(r: Roster, op: u8, b: u32) -> Roster {
 
 // What a step does to the rows for the servers in the first places of a list, and what it shows of rows, picks and ring.
 fn shown(
+    output: &impl Print,
     chosen: &mut [u32],
     flags: &mut [u8],
     places: &[u32],
@@ -54,16 +55,22 @@ fn shown(
     }
     let servers = &places[0..held];
     rowsets::change(chosen, flags, servers, states, s.op, s.b);
-    rowsets::show(chosen, flags, s.op, s.a, s.b);
-    picks::show(servers, states, s.op, s.a, s.b);
-    rings::show(servers, states, s.op, s.b);
+    rowsets::show(output, chosen, flags, s.op, s.a, s.b);
+    picks::show(output, servers, states, s.op, s.a, s.b);
+    rings::show(output, servers, states, s.op, s.b);
 }
 
 // A step is done, and its outcome printed. The servers from then on.
-pub(crate) fn step(chosen: &mut [u32], flags: &mut [u8], r: Roster, s: Step) -> Roster {
+pub(crate) fn step(
+    output: &impl Print,
+    chosen: &mut [u32],
+    flags: &mut [u8],
+    r: Roster,
+    s: Step,
+) -> Roster {
     let next = changed(r, s.op, s.b);
     let servers = next.servers;
     let states = next.states;
-    shown(chosen, flags, &servers, &states, next.held, s);
+    shown(output, chosen, flags, &servers, &states, next.held, s);
     next
 }

@@ -52,20 +52,28 @@ fn after(part: Part) -> Part {
 }
 
 // A step is done as its section does it, and its outcome printed.
-fn step(buffer: &mut [u8], chosen: &mut [u32], flags: &mut [u8], k: Kept, s: Step, c: u8) -> Kept {
+fn step(
+    output: &impl Print,
+    buffer: &mut [u8],
+    chosen: &mut [u32],
+    flags: &mut [u8],
+    k: Kept,
+    s: Step,
+    c: u8,
+) -> Kept {
     let part = k.part;
     let roster = k.roster;
     let mut next = k;
     match part {
         Part::Rosters => {
-            let changed = rosters::step(roster, s, c);
+            let changed = rosters::step(output, roster, s, c);
             next.roster = changed;
         }
         Part::Tables => {
-            next.size = tables::step(buffer, k.size, s);
+            next.size = tables::step(output, buffer, k.size, s);
         }
         Part::Methods => {
-            let changed = given::step(chosen, flags, roster, s);
+            let changed = given::step(output, chosen, flags, roster, s);
             next.roster = changed;
         }
     }
@@ -73,39 +81,47 @@ fn step(buffer: &mut [u8], chosen: &mut [u32], flags: &mut [u8], k: Kept, s: Ste
 }
 
 // What a character does: it is printed, but for an equals sign, which begins the next section; a step's end does the step before that.
-fn turn(buffer: &mut [u8], chosen: &mut [u32], flags: &mut [u8], k: Kept, s: Step, c: u8) -> Kept {
+fn turn(
+    output: &impl Print,
+    buffer: &mut [u8],
+    chosen: &mut [u32],
+    flags: &mut [u8],
+    k: Kept,
+    s: Step,
+    c: u8,
+) -> Kept {
     let part = k.part;
     if c == b'=' {
         return begun(after(part));
     }
     if !script::ends(c) {
-        say::letter(c);
+        say::letter(output, c);
         return k;
     }
-    let next = step(buffer, chosen, flags, k, s, c);
-    say::letter(c);
+    let next = step(output, buffer, chosen, flags, k, s, c);
+    say::letter(output, c);
     next
 }
 
 // Every character.
-fn run(buffer: &mut [u8], chosen: &mut [u32], flags: &mut [u8], cases: &[u8]) {
+fn run(output: &impl Print, buffer: &mut [u8], chosen: &mut [u32], flags: &mut [u8], cases: &[u8]) {
     let mut k = begun(Part::Rosters);
     let mut s = script::blank();
     let mut i = 0;
     while i < cases.len() {
         let c = cases[i];
         i += 1;
-        k = turn(buffer, chosen, flags, k, s, c);
+        k = turn(output, buffer, chosen, flags, k, s, c);
         s = script::read(s, c);
     }
 }
 
 // The cases from standard input, on a table of 3,277 places, rows and flags that someone else wrote.
-fn main() {
+fn main(rt: HostRuntime) {
     let mut buffer = [255u8; 65540];
     let mut chosen = [99u32; 4096];
     let mut flags = [9u8; 4096];
-    let mut cases = io::large_buffer();
-    let n = io::read_full(libc::STDIN_FILENO, &mut cases);
-    run(&mut buffer, &mut chosen, &mut flags, &cases[..n]);
+    let mut cases = [0u8; 65536];
+    let n = inputs::read_full(&mut rt.stdin(), &mut cases);
+    run(&rt, &mut buffer, &mut chosen, &mut flags, &cases[..n]);
 }

@@ -3,18 +3,18 @@ use crate::say;
 use ring::Entry;
 
 // The entry at an index of a plan.
-fn entry(plan: [Entry; 64], i: usize) {
+fn entry(output: &impl Print, plan: [Entry; 64], i: usize) {
     if i < 64 {
         let e = plan[i];
-        say::three(e.position as u64, e.server as u64, e.track as u64);
+        say::three(output, e.position as u64, e.server as u64, e.track as u64);
     }
 }
 
 // The entries in use.
-fn entries(plan: [Entry; 64], n: usize) {
+fn entries(output: &impl Print, plan: [Entry; 64], n: usize) {
     let mut i = 0;
     while i < n {
-        entry(plan, i);
+        entry(output, plan, i);
         i += 1;
     }
 }
@@ -35,17 +35,17 @@ fn read_at(plan: [Entry; 64], n: usize, point: u32) -> usize {
 }
 
 // What a key with a given point reads: the entry's index, and the entry.
-fn key(plan: [Entry; 64], n: usize, point: u32) {
+fn key(output: &impl Print, plan: [Entry; 64], n: usize, point: u32) {
     let i = read_at(plan, n, point);
-    say::number(i as u64);
-    entry(plan, i);
+    say::number(output, i as u64);
+    entry(output, plan, i);
 }
 
 // What a step shows of the ring: its entries, or what a key's point reads.
-pub(crate) fn show(servers: &[u32], states: &[u8], op: u8, b: u32) {
+pub(crate) fn show(output: &impl Print, servers: &[u32], states: &[u8], op: u8, b: u32) {
     match op {
-        b'e' => entries(ringplan::plan(servers, states), servers.len()),
-        b'k' => key(ringplan::plan(servers, states), servers.len(), b),
+        b'e' => entries(output, ringplan::plan(servers, states), servers.len()),
+        b'k' => key(output, ringplan::plan(servers, states), servers.len(), b),
         _ => (),
     }
 }

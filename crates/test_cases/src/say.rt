@@ -1,38 +1,37 @@
 // Characters and numbers on standard output.
-use libc::STDOUT_FILENO;
 
 // One character.
-pub(crate) fn letter(c: u8) {
+pub(crate) fn letter(output: &impl Print, c: u8) {
     let one = [c];
-    io::write_all(STDOUT_FILENO, &one);
+    let _ = output.write_all(&one);
 }
 
 // A number in decimal, behind a space.
-pub(crate) fn number(n: u64) {
-    letter(b' ');
-    io::print_decimal(STDOUT_FILENO, n);
+pub(crate) fn number(output: &impl Print, n: u64) {
+    letter(output, b' ');
+    let _ = output.print(n);
 }
 
 // Three numbers.
-pub(crate) fn three(a: u64, b: u64, c: u64) {
-    number(a);
-    number(b);
-    number(c);
+pub(crate) fn three(output: &impl Print, a: u64, b: u64, c: u64) {
+    number(output, a);
+    number(output, b);
+    number(output, c);
 }
 
 // The byte at an index of records: a space before every 20th, then hexadecimal.
-fn byte(i: usize, b: u8) {
+fn byte(output: &impl Print, i: usize, b: u8) {
     if i % 20 == 0 {
-        letter(b' ');
+        letter(output, b' ');
     }
-    io::print_hex(STDOUT_FILENO, b as u64, 2);
+    let _ = print!(output; "{b:02x}");
 }
 
 // Bytes in hexadecimal, record by record.
-pub(crate) fn bytes(all: &[u8]) {
+pub(crate) fn bytes(output: &impl Print, all: &[u8]) {
     let mut i = 0;
     while i < all.len() {
-        byte(i, all[i]);
+        byte(output, i, all[i]);
         i += 1;
     }
 }

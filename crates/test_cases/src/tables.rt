@@ -52,30 +52,30 @@ fn change(t: &mut [u8], op: u8, a: u32, b: u32) {
 }
 
 // A key's record: whether there is one, its place or how many records were read in vain, and the server that it names.
-fn seek(t: &[u8], n: u32) {
+fn seek(output: &impl Print, t: &[u8], n: u32) {
     let found = table::find(t, key_of(n));
     match found {
-        Found::At(place) => say::three(1, place as u64, table::server_at(t, place) as u64),
-        Found::Nothing(used) => say::three(0, used as u64, 0),
+        Found::At(place) => say::three(output, 1, place as u64, table::server_at(t, place) as u64),
+        Found::Nothing(used) => say::three(output, 0, used as u64, 0),
     }
 }
 
 // What a step shows: a key's record, a place's tag, what the bytes ask as an event record, a hash or dump of the bytes, how many bytes there are, or records used.
-fn show(t: &[u8], op: u8, b: u32) {
+fn show(output: &impl Print, t: &[u8], op: u8, b: u32) {
     match op {
-        b'k' => seek(t, b),
-        b'w' => say::number(table::tag_at(t, b as usize) as u64),
-        b'e' => events::asked(t),
-        b'h' => say::number(hash::fnv(t) as u64),
-        b'd' => say::bytes(t),
-        b'b' => say::number(t.len() as u64),
-        b'u' => say::number(table::used(t) as u64),
+        b'k' => seek(output, t, b),
+        b'w' => say::number(output, table::tag_at(t, b as usize) as u64),
+        b'e' => events::asked(output, t),
+        b'h' => say::number(output, hash::fnv(t) as u64),
+        b'd' => say::bytes(output, t),
+        b'b' => say::number(output, t.len() as u64),
+        b'u' => say::number(output, table::used(t) as u64),
         _ => (),
     }
 }
 
 // A step is done on a buffer's first bytes, and its outcome printed. How many bytes to take from then on.
-pub(crate) fn step(buffer: &mut [u8], size: usize, s: Step) -> usize {
+pub(crate) fn step(output: &impl Print, buffer: &mut [u8], size: usize, s: Step) -> usize {
     if s.op == b't' {
         return s.b as usize;
     }
@@ -83,6 +83,6 @@ pub(crate) fn step(buffer: &mut [u8], size: usize, s: Step) -> usize {
         return size;
     }
     change(&mut buffer[0..size], s.op, s.a, s.b);
-    show(&buffer[0..size], s.op, s.b);
+    show(output, &buffer[0..size], s.op, s.b);
     size
 }

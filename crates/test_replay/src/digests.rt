@@ -1,6 +1,5 @@
 // The rest of a line: the reply, and the digests of what was lent. A digest is FNV-1a 64 over the bytes that the model lays out
 // (tests/model/session.py), numbers big-endian.
-use libc::STDOUT_FILENO;
 use ring::Entry;
 use roster::Roster;
 use rules::Reply;
@@ -75,47 +74,52 @@ fn over_roster(start: u64, r: Roster) -> u64 {
 }
 
 // Prints a space and a digest.
-fn digest(h: u64) {
-    io::write_all(STDOUT_FILENO, b" ");
-    io::print_hex(STDOUT_FILENO, h, 16);
+fn digest(output: &impl Print, h: u64) {
+    let _ = print!(output; " {h:016x}");
 }
 
 // Prints a space and a number.
-fn next(n: u64) {
-    io::write_all(STDOUT_FILENO, b" ");
-    io::print_decimal(STDOUT_FILENO, n);
+fn next(output: &impl Print, n: u64) {
+    let _ = print!(output; " {n}");
 }
 
 // Prints a space before each of: refusal (0 if accepted), server, mark, reads.
-fn told(reply: Reply) {
+fn told(output: &impl Print, reply: Reply) {
     let n = answers::numbers(reply);
-    next(n.refusal as u64);
-    next(n.server as u64);
-    next(n.mark as u64);
-    next(n.reads as u64);
+    next(output, n.refusal as u64);
+    next(output, n.server as u64);
+    next(output, n.mark as u64);
+    next(output, n.reads as u64);
 }
 
 // Prints the digests of ring and roster; a ring of 63 entries has none.
-fn rest(what: u32, ring: [Entry; 64], roster: Roster) {
+fn rest(output: &impl Print, what: u32, ring: [Entry; 64], roster: Roster) {
     if what == 1 {
-        io::write_all(STDOUT_FILENO, b" -");
+        let _ = output.write_all(b" -");
     } else {
-        digest(over_ring(NOTHING, ring));
+        digest(output, over_ring(NOTHING, ring));
     }
-    digest(over_roster(NOTHING, roster));
-    io::write_all(STDOUT_FILENO, b"\n");
+    digest(output, over_roster(NOTHING, roster));
+    let _ = output.write_all(b"\n");
 }
 
 // Prints what an event left.
-pub(crate) fn line(what: u32, tried: Tried, table: &[u8], rows: &[u32], flags: &[u8]) {
+pub(crate) fn line(
+    output: &impl Print,
+    what: u32,
+    tried: Tried,
+    table: &[u8],
+    rows: &[u32],
+    flags: &[u8],
+) {
     let outcome = tried.outcome;
     let ring = tried.ring;
     let reply = outcome.reply;
     let roster = outcome.roster;
-    told(reply);
-    next(table::used(table) as u64);
-    digest(over_bytes(NOTHING, table));
-    digest(over_numbers(NOTHING, rows));
-    digest(over_bytes(NOTHING, flags));
-    rest(what, ring, roster);
+    told(output, reply);
+    next(output, table::used(table) as u64);
+    digest(output, over_bytes(NOTHING, table));
+    digest(output, over_numbers(NOTHING, rows));
+    digest(output, over_bytes(NOTHING, flags));
+    rest(output, what, ring, roster);
 }

@@ -72,6 +72,7 @@ fn done(
 
 // The event or the start, and its line.
 fn met(
+    output: &impl Print,
     what: u32,
     record: &[u8],
     table: &mut [u8],
@@ -81,12 +82,18 @@ fn met(
     roster: Roster,
 ) -> Tried {
     let tried = done(what, record, table, rows, flags, ring, roster);
-    digests::line(what, tried, table, rows, flags);
+    digests::line(output, what, tried, table, rows, flags);
     tried
 }
 
 // A line's end: what is lent is cut to its lengths and met. What is given next.
-pub(crate) fn act(table: &mut [u8], rows: &mut [u32], flags: &mut [u8], g: Given) -> Given {
+pub(crate) fn act(
+    output: &impl Print,
+    table: &mut [u8],
+    rows: &mut [u32],
+    flags: &mut [u8],
+    g: Given,
+) -> Given {
     let numbers = g.numbers;
     let event = g.event;
     let ring = g.ring;
@@ -96,6 +103,7 @@ pub(crate) fn act(table: &mut [u8], rows: &mut [u32], flags: &mut [u8], g: Given
     let b = within(numbers[2], rows.len());
     let c = within(numbers[3], flags.len());
     let tried = met(
+        output,
         numbers[4],
         &event[..e],
         &mut table[..a],

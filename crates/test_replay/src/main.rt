@@ -18,11 +18,19 @@ use script::Step;
 
 // What a character does: a colon starts afresh, with zeros in table and flags, 9 in the rows and entries that name 9; a comma or a space
 // behind a number writes it; a line's end does the event.
-fn turn(table: &mut [u8], rows: &mut [u32], flags: &mut [u8], g: Given, s: Step, c: u8) -> Given {
+fn turn(
+    output: &impl Print,
+    table: &mut [u8],
+    rows: &mut [u32],
+    flags: &mut [u8],
+    g: Given,
+    s: Step,
+    c: u8,
+) -> Given {
     let op = script::done(s, c);
     match op {
         0 => g,
-        10 => lend::act(table, rows, flags, g),
+        10 => lend::act(output, table, rows, flags, g),
         b':' => {
             spans::clear(table);
             spans::clear(flags);
@@ -46,15 +54,15 @@ fn turn(table: &mut [u8], rows: &mut [u32], flags: &mut [u8], g: Given, s: Step,
 }
 
 // Every character.
-fn run(text: &[u8], table: &mut [u8], rows: &mut [u32], flags: &mut [u8]) {
+fn run(output: &impl Print, text: &[u8], table: &mut [u8], rows: &mut [u32], flags: &mut [u8]) {
     let mut g = given::blank(given::naming(0, 0));
     let mut s = script::line();
     let mut i = 0;
     while i < text.len() {
         let c = text[i];
         i += 1;
-        script::name(s, c);
-        g = turn(table, rows, flags, g, s, c);
+        script::name(output, s, c);
+        g = turn(output, table, rows, flags, g, s, c);
         s = script::read(s, c);
     }
 }
@@ -67,11 +75,11 @@ fn room() -> [u8; 1048576]
 }
 
 // The lines from standard input, on buffers as long as any of them needs.
-fn main() {
+fn main(rt: HostRuntime) {
     let mut text = room();
     let mut table = [0u8; 65540];
     let mut rows = [0u32; 4097];
     let mut flags = [0u8; 4097];
-    let n = io::read_full(libc::STDIN_FILENO, &mut text);
-    run(&text[..n], &mut table, &mut rows, &mut flags);
+    let n = inputs::read_full(&mut rt.stdin(), &mut text);
+    run(&rt, &text[..n], &mut table, &mut rows, &mut flags);
 }

@@ -20,13 +20,13 @@ pub(crate) fn line() -> Step {
 }
 
 // A character of a name is printed; an equals sign is not.
-pub(crate) fn name(s: Step, c: u8) {
+pub(crate) fn name(output: &impl Print, s: Step, c: u8) {
     let one = [c];
     if s.part != 0 {
         return;
     }
     if c != b'=' {
-        io::write_all(libc::STDOUT_FILENO, &one);
+        let _ = output.write_all(&one);
     }
 }
 

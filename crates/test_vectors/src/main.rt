@@ -4,8 +4,6 @@
 
 #![tactic(auto)]
 
-use libc::STDOUT_FILENO;
-
 // The byte that a character stands for, by the character before it.
 fn meant(before: u8, c: u8) -> u8 {
     if before != b'\\' {
@@ -18,19 +16,19 @@ fn meant(before: u8, c: u8) -> u8 {
 }
 
 // F, behind a space.
-fn sum(bytes: &[u8]) {
-    io::write_all(STDOUT_FILENO, b" ");
-    io::print_hex(STDOUT_FILENO, hash::fnv(bytes) as u64, 8);
+fn sum(output: &impl Print, bytes: &[u8]) {
+    let sum = hash::fnv(bytes);
+    let _ = print!(output; " {sum:08x}");
 }
 
 // One character, with a vector's first n bytes at the front of the text; how many there are then. At a line's end F is printed.
-fn turn(text: &mut [u8], n: usize, before: u8, c: u8) -> usize {
+fn turn(output: &impl Print, text: &mut [u8], n: usize, before: u8, c: u8) -> usize {
     if text.len() <= n {
         return n;
     }
     match c {
         10 => {
-            sum(&text[..n]);
+            sum(output, &text[..n]);
             0
         }
         b'"' | b'\\' => n,
@@ -42,7 +40,7 @@ fn turn(text: &mut [u8], n: usize, before: u8, c: u8) -> usize {
 }
 
 // Every character. A vector's bytes are never more than the characters read, so nothing is overwritten before it is read.
-fn run(text: &mut [u8], end: usize) {
+fn run(output: &impl Print, text: &mut [u8], end: usize) {
     let mut before = 0u8;
     let mut n = 0;
     let mut i = 0;
@@ -51,15 +49,15 @@ fn run(text: &mut [u8], end: usize) {
             return;
         }
         let one = [text[i]];
-        n = turn(text, n, before, one[0]);
-        io::write_all(STDOUT_FILENO, &one);
+        n = turn(output, text, n, before, one[0]);
+        let _ = output.write_all(&one);
         before = one[0];
         i += 1;
     }
 }
 
-fn main() {
-    let mut text = io::large_buffer();
-    let end = io::read_full(libc::STDIN_FILENO, &mut text);
-    run(&mut text, end);
+fn main(rt: HostRuntime) {
+    let mut text = [0u8; 65536];
+    let end = inputs::read_full(&mut rt.stdin(), &mut text);
+    run(&rt, &mut text, end);
 }
