@@ -1,4 +1,4 @@
--- Facts as assertions: what two of them show as facts, they show as assertions. For theorems that no second answer keeps a walked contract.
+-- Facts as assertions: what two of them show as facts, they show as assertions. For theorems that no second answer keeps a contract.
 use seplogic.Ra.Ura.{Ura}
 use base.Logic.{SProp, ent, sep, via, fst∗, snd∗}
 use contract.Monad.{conj, conj_l, conj_r, fact, fact_i, fact_use}

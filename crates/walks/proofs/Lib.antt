@@ -1,4 +1,1 @@
-pub mod Steps
-pub mod Slices
-pub mod Loans
 pub mod Facts

@@ -1,4 +1,4 @@
-// No code: what a proof needs that follows a function statement by statement, where a reference to a struct, or a struct that
-// holds one, leaves it to be written by hand.
+// No code: laws for theorems that no second answer keeps the contract of a function over a lent slice of structs, or over a struct that
+// holds a lent slice.
 
 #![tactic(auto)]
