@@ -1,6 +1,6 @@
 -- What is kept of a window that was read: the header and the bytes from a place on; or, of a packet record that the buffer has no room for,
 -- the header and the record's first 104 bytes, whose length then says 88.
-use Prim.Native.Nat.{ℕ, ◌+◌, ◌-◌, ◌<◌, ◌≤◌, min}
+use Prim.Native.Nat.{ℕ, ◌+◌, ◌-◌, ◌<◌, ◌≤◌}
 use mathlib.Core.Bool.{Bool, true, false, cond}
 use mathlib.Core.List.{List, ◌++◌, append_assoc}
 use mathlib.Core.Path.{◌≡◌, refl, sym, ap, ◌∙◌}
