@@ -84,6 +84,7 @@ pub fn remove_working(r: Roster, server: u32) -> Roster
 }
 
 // A new server taken into the horizon, in its rising place.
+#[tactic(auto, unfolding(crate::specs::Roster::added_horizon))]
 pub fn add_horizon(r: Roster, server: u32) -> Roster
     ensures { result ≡ added_horizon server r }
 {

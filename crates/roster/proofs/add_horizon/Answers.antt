@@ -3,7 +3,7 @@ use Prim.Native.Nat.{ℕ, ◌≤◌, ◌<◌}
 use mathlib.Core.Path.{◌≡◌}
 use native.Mathlib.Omega.{arith}
 use lib.ListN.{length, length-take}
-use borrow.Author.Tests.{lt-ltb, le-ltb}
+use borrow.Author.Tests.{lt-ltb}
 use Rattle.lists.specs.Lists.{before}
 use Rattle.roster.specs.declared.Roster.{Roster}
 use Rattle.roster.specs.Roster.{added_horizon, held_servers}
@@ -16,13 +16,9 @@ use Rattle.roster.proofs.add_horizon.Goals as goal
 within : (server p : ℕ) (r : Roster) → p ≡ before server (held_servers r) → p ≤ r.held
 within server p r e = omega (arith, e, before-le server (held_servers r), length-take r.held r.servers)
 
-pub returns-then-held-ge-MOST_SERVERS : goal.returns-then-held-ge-MOST_SERVERS
-unfolding added_horizon
-returns-then-held-ge-MOST_SERVERS c = rw (le-ltb _ _ c.if-held-ge-MOST_SERVERS.true)
-
 pub offset_bounds-servers-p : goal.offset_bounds-servers-p
 offset_bounds-servers-p c =
-    let fits : c.args.r.held < 64 = c.if-held-ge-MOST_SERVERS.false in
+    let fits : c.args.r.held < 64 = omega arith in
     let inside = within c.args.server _ c.args.r c.before-p.ensures in
     omega (arith, inside, fits)
 
@@ -41,7 +37,7 @@ slice_bounds-states-start c = omega (arith, within c.args.server _ c.args.r c.be
 pub returns : goal.returns
 unfolding added_horizon
 returns c =
-    let fits : c.args.r.held < 64 = c.if-held-ge-MOST_SERVERS.false in
+    let fits : c.args.r.held < 64 = omega arith in
     let inside = within c.args.server _ c.args.r c.before-p.ensures in
     let ws : length c.args.r.servers ≡ 64 = search rules in
     let wx : length c.args.r.states ≡ 64 = search rules in
