@@ -19,30 +19,27 @@ loop-i-init c =
 pub returns-then-states-i : goal.returns-then-states-i
 unfolding kept_all
 returns-then-states-i c =
-    let l = c in
-    let p = l.args in
-    left_short (kept_all heavier (λ s. weight s p.digest) l.loop-i.best) 1 p.servers.now p.states.now l.loop-i.i _ l.loop-i.invariant.1 (omega arith)
+    let p = c.args in
+    left_short (kept_all heavier (λ s. weight s p.digest) c.loop-i.best) 1 p.servers.now p.states.now c.loop-i.i _ c.loop-i.invariant.1 (omega arith)
 
 pub loop-i-preserved : goal.loop-i-preserved
 unfolding kept_all
 loop-i-preserved c =
-    let l = c in
-    let p = l.args in
-    let h : l.loop-i.i < length p.servers.now = omega arith in
-    let g : l.loop-i.i < length p.states.now = omega arith in
-    let worth = kept_all heavier (λ s. weight s p.digest) l.loop-i.best in (
+    let p = c.args in
+    let h : c.loop-i.i < length p.servers.now = omega arith in
+    let g : c.loop-i.i < length p.states.now = omega arith in
+    let worth = kept_all heavier (λ s. weight s p.digest) c.loop-i.best in (
       search rules,
       elim c.if-states-i-eq-WORKING.branch [
         | then-states-i-eq-WORKING w ↦
-            rw (w.best-is ∙ w.keep_heavier-best.ensures, w.weight.ensures) (left_here worth 1 p.servers.now p.states.now l.loop-i.i _ l.loop-i.invariant.1 h g w.if-states-i-eq-WORKING.true)
+            rw (w.best-is ∙ w.keep_heavier-best.ensures, w.weight.ensures) (left_here worth 1 p.servers.now p.states.now c.loop-i.i _ c.loop-i.invariant.1 h g w.if-states-i-eq-WORKING.true)
         | else-states-i-eq-WORKING w ↦
-            rw w.best-is (left_other worth 1 p.servers.now p.states.now l.loop-i.i _ l.loop-i.invariant.1 h g w.if-states-i-eq-WORKING.false)
+            rw w.best-is (left_other worth 1 p.servers.now p.states.now c.loop-i.i _ c.loop-i.invariant.1 h g w.if-states-i-eq-WORKING.false)
       ],
     )
 
 pub returns : goal.returns
 unfolding kept_all
 returns c =
-    let l = c in
-    let p = l.args in
-    left_end (kept_all heavier (λ s. weight s p.digest) l.loop-i.best) 1 p.servers.now p.states.now l.loop-i.i _ l.loop-i.invariant.1 (omega arith)
+    let p = c.args in
+    left_end (kept_all heavier (λ s. weight s p.digest) c.loop-i.best) 1 p.servers.now p.states.now c.loop-i.i _ c.loop-i.invariant.1 (omega arith)

@@ -16,37 +16,32 @@ loop-i-init c = (search rules, refl)
 pub returns-then-states-i : goal.returns-then-states-i
 unfolding beaten
 returns-then-states-i c =
-    let l = c in
-    let p = l.args in
-    left_short (beaten heavier (λ s. weight s p.digest) p.best) 2 p.servers.now p.states.now l.loop-i.i _ l.loop-i.invariant.1 (omega arith)
+    let p = c.args in
+    left_short (beaten heavier (λ s. weight s p.digest) p.best) 2 p.servers.now p.states.now c.loop-i.i _ c.loop-i.invariant.1 (omega arith)
 
 pub returns-then-heavier : goal.returns-then-heavier
 returns-then-heavier c =
-    let v = c in
-    let l = v in
-    let p = l.args in
-    search_found heavier (λ s. weight s p.digest) p.best 2 p.servers.now p.states.now l.loop-i.i _ l.loop-i.invariant.1 (omega arith) (omega arith) v.if-states-i-eq-STANDBY.true
-    (sym (rw v.weight.ensures at v.heavier.ensures) ∙ c.if-heavier.true)
+    let p = c.args in
+    search_found heavier (λ s. weight s p.digest) p.best 2 p.servers.now p.states.now c.loop-i.i _ c.loop-i.invariant.1 (omega arith) (omega arith) c.if-states-i-eq-STANDBY.true
+    (sym (rw c.weight.ensures at c.heavier.ensures) ∙ c.if-heavier.true)
 
 pub loop-i-preserved : goal.loop-i-preserved
 loop-i-preserved c =
-    let l = c in
-    let p = l.args in
-    let h : l.loop-i.i < length p.servers.now = omega arith in
-    let g : l.loop-i.i < length p.states.now = omega arith in
+    let p = c.args in
+    let h : c.loop-i.i < length p.servers.now = omega arith in
+    let g : c.loop-i.i < length p.states.now = omega arith in
     let m : ℕ → ℕ = λ s. weight s p.digest in (
       search rules,
       elim c.if-states-i-eq-STANDBY.branch [
         | then-states-i-eq-STANDBY+else-heavier w ↦
-            search_missed heavier m p.best 2 p.servers.now p.states.now l.loop-i.i _ l.loop-i.invariant.1 h g w.if-states-i-eq-STANDBY.true (sym (rw w.weight.ensures at w.heavier.ensures) ∙ w.if-heavier.false)
+            search_missed heavier m p.best 2 p.servers.now p.states.now c.loop-i.i _ c.loop-i.invariant.1 h g w.if-states-i-eq-STANDBY.true (sym (rw w.weight.ensures at w.heavier.ensures) ∙ w.if-heavier.false)
         | else-states-i-eq-STANDBY w ↦
-            left_other (beaten heavier m p.best) 2 p.servers.now p.states.now l.loop-i.i _ l.loop-i.invariant.1 h g w.if-states-i-eq-STANDBY.false
+            left_other (beaten heavier m p.best) 2 p.servers.now p.states.now c.loop-i.i _ c.loop-i.invariant.1 h g w.if-states-i-eq-STANDBY.false
       ],
     )
 
 pub returns : goal.returns
 unfolding beaten
 returns c =
-    let l = c in
-    let p = l.args in
-    left_end (beaten heavier (λ s. weight s p.digest) p.best) 2 p.servers.now p.states.now l.loop-i.i _ l.loop-i.invariant.1 (omega arith)
+    let p = c.args in
+    left_end (beaten heavier (λ s. weight s p.digest) p.best) 2 p.servers.now p.states.now c.loop-i.i _ c.loop-i.invariant.1 (omega arith)

@@ -9,6 +9,5 @@ use Rattle.rows.proofs.clear.Goals as goal
 pub returns : goal.returns
 unfolding cleared in_state
 returns c =
-    let f = c in
-    let p = f.args in
-    f.fill.ensures ∙ filled_none p.count [] (record { servers = p.rows.now; flags = p.flags.now })
+    let p = c.args in
+    c.fill.ensures ∙ filled_none p.count [] (record { servers = p.rows.now; flags = p.flags.now })

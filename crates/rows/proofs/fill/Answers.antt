@@ -23,33 +23,31 @@ search-init c = (refl, refl, search rules)
 
 pub search-preserved : goal.search-preserved
 search-preserved c =
-    let l = c in
-    let r = l.loop-r.r in
-    let p = l.args in
+    let r = c.loop-r.r in
+    let p = c.args in
     let ss = p.servers.now in
     let xs = p.states.now in
     let m : ℕ → ℕ = λ s. weight s r in
-    let b = l.choose-best.result in
-    let h : l.search.i < length ss = omega arith in
-    let g : l.search.i < length xs = omega arith in (
+    let b = c.choose-best.result in
+    let h : c.search.i < length ss = omega arith in
+    let g : c.search.i < length xs = omega arith in (
       elim c.if-states-i-eq-STANDBY.branch [
         | then-states-i-eq-STANDBY+else-heavier w ↦
-            search_missed heavier m b 2 ss xs l.search.i _ l.search.invariant.0 h g w.if-states-i-eq-STANDBY.true (sym (rw w.weight-w.ensures at w.heavier.ensures) ∙ w.if-heavier.false)
+            search_missed heavier m b 2 ss xs c.search.i _ c.search.invariant.0 h g w.if-states-i-eq-STANDBY.true (sym (rw w.weight-w.ensures at w.heavier.ensures) ∙ w.if-heavier.false)
         | else-states-i-eq-STANDBY w ↦
-            left_other (beaten heavier m b) 2 ss xs l.search.i _ l.search.invariant.0 h g w.if-states-i-eq-STANDBY.false
+            left_other (beaten heavier m b) 2 ss xs c.search.i _ c.search.invariant.0 h g w.if-states-i-eq-STANDBY.false
       ],
-      l.search.invariant.1,
+      c.search.invariant.1,
       search rules,
     )
 
 pub loop-r-preserved : goal.loop-r-preserved
 unfolding beaten
 loop-r-preserved c =
-    let l = c in
-    let p = l.args in
+    let p = c.args in
     let ss = p.servers.now in
     let xs = p.states.now in
-    let r = l.loop-r.r in
+    let r = c.loop-r.r in
     let working = in_state 1 ss xs in
     let horizon = in_state 2 ss xs in
     let m : ℕ → ℕ = λ s. weight s r in
@@ -67,8 +65,8 @@ loop-r-preserved c =
           w.flag-is ∙ flag_some working horizon r b e true w.if-best.true (search_found heavier m b 2 ss xs w.search.i _ w.search.invariant.0 (omega arith) (omega arith) w.if-states-i-eq-STANDBY.true beats)
       | else-best w ↦ w.flag-is ∙ flag_none working horizon r b e w.if-best.false
     ] in (
-      rw (l.loop-r.invariant.0, server_is working horizon r c.choose-best.result c.choose-best.ensures) (written_more (row_server working) r p.rows.now (omega arith)),
-      rw (l.loop-r.invariant.1, flagged) (written_more (row_flag working horizon) r p.flags.now (omega arith)),
+      rw (c.loop-r.invariant.0, server_is working horizon r c.choose-best.result c.choose-best.ensures) (written_more (row_server working) r p.rows.now (omega arith)),
+      rw (c.loop-r.invariant.1, flagged) (written_more (row_flag working horizon) r p.flags.now (omega arith)),
       search rules,
       search rules,
       search rules,
@@ -77,7 +75,6 @@ loop-r-preserved c =
 pub returns : goal.returns
 unfolding filled
 returns c =
-    let l = c in
-    let e : l.loop-r.r ≡ l.in_use-n.result = omega arith in
-    let u = e ∙ l.in_use-n.ensures in
-    both_are (rw u at l.loop-r.invariant.0) (rw u at l.loop-r.invariant.1)
+    let e : c.loop-r.r ≡ c.in_use-n.result = omega arith in
+    let u = e ∙ c.in_use-n.ensures in
+    both_are (rw u at c.loop-r.invariant.0) (rw u at c.loop-r.invariant.1)
