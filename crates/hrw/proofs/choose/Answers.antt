@@ -1,5 +1,4 @@
 use Prim.Native.Nat.{◌<◌}
-use mathlib.Core.Path.{◌∙◌}
 use native.Mathlib.Omega.{arith}
 use lib.ListN.{length}
 use Rattle.hash.specs.Hash.{weight}
@@ -9,7 +8,6 @@ use Rattle.ranking.proofs.Scan.{kept_all, kept_all_best}
 use Rattle.ranking.proofs.Loop.{left_here, left_other, left_end, left_short}
 use borrow.Author.Rules.{rules}
 use Rattle.hrw.proofs.choose.Goals as goal
-use Rattle.hrw.proofs.choose.Goals.{then-states-i-eq-WORKING, else-states-i-eq-WORKING}
 
 pub loop-i-init : goal.loop-i-init
 loop-i-init c =
@@ -26,17 +24,15 @@ pub loop-i-preserved : goal.loop-i-preserved
 unfolding kept_all
 loop-i-preserved c =
     let p = c.args in
-    let h : c.loop-i.i < length p.servers.now = omega arith in
-    let g : c.loop-i.i < length p.states.now = omega arith in
-    let worth = kept_all heavier (λ s. weight s p.digest) c.loop-i.best in (
-      search rules,
-      elim c.if-states-i-eq-WORKING.branch [
-        | then-states-i-eq-WORKING w ↦
-            rw (w.best-is ∙ w.keep_heavier-best.ensures, w.weight.ensures) (left_here worth 1 p.servers.now p.states.now c.loop-i.i _ c.loop-i.invariant.1 h g w.if-states-i-eq-WORKING.true)
-        | else-states-i-eq-WORKING w ↦
-            rw w.best-is (left_other worth 1 p.servers.now p.states.now c.loop-i.i _ c.loop-i.invariant.1 h g w.if-states-i-eq-WORKING.false)
-      ],
-    )
+    let ss = p.servers.now in
+    let xs = p.states.now in
+    let i = c.loop-i.i in
+    let h : i < length ss = omega arith in
+    let g : i < length xs = omega arith in
+    let worth = kept_all heavier (λ s. weight s p.digest) c.loop-i.best in
+    let here = left_here worth 1 ss xs i _ c.loop-i.invariant.1 h g in
+    let other = left_other worth 1 ss xs i _ c.loop-i.invariant.1 h g in
+    grind (arith, here, other)
 
 pub returns : goal.returns
 unfolding kept_all
