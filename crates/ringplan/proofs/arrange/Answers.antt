@@ -1,5 +1,5 @@
 use native.Mathlib.Omega.{arith}
-use Rattle.ringplan.proofs.Planning.{arranging_none, arranging_more, arranging_rises, arranging_done}
+use Rattle.ringplan.proofs.Planning.{arranging_none, arranging_more, arranging_rises}
 use borrow.Author.Rules.{rules}
 use Rattle.ringplan.proofs.arrange.Goals as goal
 
@@ -15,8 +15,3 @@ pub loop-i-preserved : goal.loop-i-preserved
 loop-i-preserved c =
     let p = c.args in
     arranging_more p.servers.now c.loop-i.order _ c.loop-i.n c.loop-i.i c.key.result (omega arith) c.loop-i.invariant c.place.auto.order (λ j. omega (arith, c.type_inv.servers j)) c.key.ensures c.place.ensures
-
-pub returns : goal.returns
-returns c =
-    let p = c.args in
-    arranging_done p.servers.now c.loop-i.order c.loop-i.n c.loop-i.i (omega arith) c.loop-i.invariant

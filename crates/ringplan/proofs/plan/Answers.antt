@@ -1,6 +1,4 @@
-use mathlib.Core.Path.{sym}
 use native.Mathlib.Omega.{arith}
-use lib.Seq.{length-take-le}
 use Rattle.sets.specs.Sets.{in_state}
 use Rattle.ringplan.proofs.Planning.{ready, laid_none, laid_more, laid_done, planned-none}
 use borrow.Author.Rules.{rules}
@@ -19,11 +17,6 @@ loop-i-init c =
       search rules,
       laid_none p.servers.now (in_state 1 p.servers.now p.states.now) c.blank_plan-plan.result c.blank_plan-plan.ensures,
     )
-
-pub slice_bounds-entry_for-end : goal.slice_bounds-entry_for-end
-slice_bounds-entry_for-end c =
-    let r = c.loop-i.invariant.0 in
-    sym (length-take-le _ _ (omega (arith, r.few, r.keys_sized)))
 
 pub loop-i-preserved : goal.loop-i-preserved
 loop-i-preserved c =

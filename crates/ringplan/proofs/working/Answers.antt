@@ -1,15 +1,9 @@
 use Prim.Native.Nat.{◌≤◌, ◌<◌}
 use native.Mathlib.Omega.{arith}
 use lib.ListN.{length}
-use Rattle.ringplan.proofs.Scans.{collect_none, collect_here, collect_other, collect_end, collect_short}
-use borrow.Author.Rules.{rules}
+use Rattle.ringplan.proofs.Scans.{collect_here, collect_other, collect_end, collect_short}
 use Rattle.ringplan.proofs.working.Goals as goal
 use Rattle.ringplan.proofs.working.Goals.{then-states-i-eq-WORKING, else-states-i-eq-WORKING}
-
-pub loop-i-init : goal.loop-i-init
-loop-i-init c =
-    let p = c.args in
-    collect_none p.servers.now p.states.now _ (search rules)
 
 pub returns-then-states-i : goal.returns-then-states-i
 returns-then-states-i c =

@@ -18,9 +18,6 @@ use Rattle.rows.proofs.fill.Goals.{then-best+else-search-test, then-best+then-se
 pub loop-r-init : goal.loop-r-init
 loop-r-init c = (written_none _ _, written_none _ _, search rules, refl, refl)
 
-pub search-init : goal.search-init
-search-init c = (refl, refl, search rules)
-
 pub search-preserved : goal.search-preserved
 search-preserved c =
     let r = c.loop-r.r in

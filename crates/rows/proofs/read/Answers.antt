@@ -1,6 +1,4 @@
 -- A read gives the server and the flag that stand at its row; without rows, neither.
-use native.Mathlib.Omega.{arith}
-use native.Mathlib.Nat.{mod-le}
 use borrow.Author.Tests.{eq-eqb, ne_eqb}
 use Rattle.rows.specs.Rows.{row_read}
 use Rattle.rows.proofs.read.Goals as goal
@@ -8,9 +6,6 @@ use Rattle.rows.proofs.read.Goals as goal
 pub returns-then-count-eq0 : goal.returns-then-count-eq0
 unfolding row_read
 returns-then-count-eq0 c = rw (eq-eqb _ _ c.if-count-eq0.true)
-
-pub overflow_cast-row-2 : goal.overflow_cast-row-2
-overflow_cast-row-2 c = omega (arith, mod-le c.args.f c.args.count)
 
 pub returns : goal.returns
 unfolding row_read
