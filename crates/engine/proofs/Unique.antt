@@ -1,14 +1,14 @@
 -- No second answer satisfies a promise of this crate: stated of the contracts.
 use Prim.Native.Nat.{ℕ}
-use mathlib.Core.List.{List, []}
-use mathlib.Core.Path.{◌≡◌, refl, sym, ap, ◌∙◌}
-use lib.ListN.{length, replicate, length-replicate}
+use mathlib.Core.List.{List}
+use mathlib.Core.Path.{◌≡◌, sym, ap, ◌∙◌}
+use lib.ListN.{replicate, length-replicate}
 use Rattle.event.proofs.Unique.{told_apart as event-apart}
 use Rattle.table.proofs.Unique.{told_apart as found-apart}
 use Rattle.ring.specs.declared.Entry.{Entry}
 use Rattle.ring.specs.Ring.{blank}
 use Rattle.rules.specs.declared.Outcome.{Outcome}
-use Rattle.rules.specs.Rules.{World, world_with}
+use Rattle.rules.specs.Rules.{World}
 use Rattle.rules.proofs.Unique.{start_unique}
 use Rattle.answers.specs.declared.Reaction.{Reaction}
 use Rattle.answers.proofs.Unique.{SameReaction, reaction_unique}

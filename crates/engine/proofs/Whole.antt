@@ -14,13 +14,13 @@ use Rattle.roster.specs.declared.Roster.{Roster}
 use Rattle.roster.specs.Roster.{sound, held_servers, working_set, place_of, added_horizon, removed_horizon}
 use Rattle.roster.proofs.Form.{sound_parts}
 use Rattle.event.specs.Event.{Request, refused_by, event_in}
-use Rattle.table.specs.Table.{Finding, find, room}
+use Rattle.table.specs.Table.{Finding, find}
 use Rattle.ring.specs.declared.Entry.{Entry}
 use Rattle.ring.specs.Ring.{entry_read, overlaid}
 use Rattle.ringplan.specs.Plan.{planned, drawn}
 use Rattle.ringplan.proofs.Planning.{overlaid-drawn}
 use Rattle.rules.specs.Answer.{answer_of}
-use Rattle.rules.specs.Rules.{state_with, world_with, State, World, Change, Done, is, lent_bar, admitted, judged, barred, effect, packet, end, pick_by, sized_for, settled, event_of, EventPromise}
+use Rattle.rules.specs.Rules.{state_with, world_with, State, World, Change, is, lent_bar, admitted, judged, barred, effect, packet, pick_by, sized_for, settled, event_of, EventPromise}
 use Rattle.rules.proofs.Sizes.{right_sizes}
 use Rattle.rules.proofs.Still.{packet_still, end_still}
 use Rattle.engine.specs.declared.Lookup.{Lookup}
