@@ -40,10 +40,10 @@ fit_in_state k (s ∷ ss) [] f = tt
 fit_in_state k (s ∷ ss) (x ∷ xs) f =
     both (eqb x k) (λ t. rw t (f.0, fit_in_state k ss xs f.1)) (λ t. rw t (fit_in_state k ss xs f.1))
 
-pub get_d_map : (g : ℕ → ℕ) (l : List ℕ) (i : ℕ) → i < length l → get_or (map g l) i 0 ≡ g (get_or l i 0)
-get_d_map g [] i h = absurd (not-suc-le-zero h)
-get_d_map g (s ∷ l) zero h = refl
-get_d_map g (s ∷ l) (suc i) h = get_d_map g l i (le_of_suc-le-suc h)
+pub get_or_map : (g : ℕ → ℕ) (l : List ℕ) (i : ℕ) → i < length l → get_or (map g l) i 0 ≡ g (get_or l i 0)
+get_or_map g [] i h = absurd (not-suc-le-zero h)
+get_or_map g (s ∷ l) zero h = refl
+get_or_map g (s ∷ l) (suc i) h = get_or_map g l i (le_of_suc-le-suc h)
 
 fit_placed : (s : ℕ) (l : List ℕ) → s < 2 ^ 32 → Fit l → Fit (placed s l)
 unfolding placed
@@ -129,7 +129,7 @@ module _ (keys : List ℕ) (p : ℕ) (best : Best) (i : ℕ) (so : Nearing keys 
   nearing_more r v d best' h er ed ev eb w f q =
       let s = get_or w i 0 in
       let n : i < length w = omega (arith, ap length q, length-map w key_of) in
-      let k : get_or keys i 0 ≡ key_of s = ap (λ (l : List ℕ). get_or l i 0) q ∙ get_d_map key_of w i n in
+      let k : get_or keys i 0 ≡ key_of s = ap (λ (l : List ℕ). get_or l i 0) q ∙ get_or_map key_of w i n in
       let fits : s < 2 ^ 32 = fit_at w i n f in
       let a : v ≡ s = ev ∙ ap key_server k ∙ key_server_lem s fits in
       let b : d ≡ from p s = ed ∙ ap (λ (x : ℕ). distance x p) (er ∙ ap key_position k ∙ key_position_lem s fits) in

@@ -14,7 +14,7 @@ use Rattle.ringplan.specs.Plan.{placed, arranged, entry_of, entries, drawn, plan
 use Rattle.ringplan.specs.Keys.{Fit, key_of, key_placed, Rising}
 use Rattle.ringplan.proofs.Order.{length-arranged}
 use Rattle.ringplan.proofs.Placing.{rising-placed}
-use Rattle.ringplan.proofs.Keys.{fit_all, fit_at, fit_in_state, fit_arranged, get_d_map, placed_keys}
+use Rattle.ringplan.proofs.Keys.{fit_all, fit_at, fit_in_state, fit_arranged, get_or_map, placed_keys}
 use Rattle.ringplan.proofs.Reading.{length-entries}
 
 -- keys put in order don't fall
@@ -124,7 +124,7 @@ laid_more held working order keys m plan i e here r says a =
     let x = get_or (arranged held) i 0 in
     let within : i < length (arranged held) = omega (arith, length-arranged held) in
     let k : get_or order i 0 ≡ key_of x =
-    sym (get_or-take (length held) order i 0 here) ∙ ap (λ (l : List ℕ). get_or l i 0) r.in_order ∙ get_d_map key_of (arranged held) i within in
+    sym (get_or-take (length held) order i 0 here) ∙ ap (λ (l : List ℕ). get_or l i 0) r.in_order ∙ get_or_map key_of (arranged held) i within in
     let q : e ≡ entry_of working x =
     says working x r.working_fits (fit_at (arranged held) i within (fit_arranged held r.fits)) r.working_keys k in
     record {

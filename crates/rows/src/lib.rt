@@ -17,7 +17,7 @@ pub const ROW_PLACES: usize = 4096;
 // up to the first that outranks it.
 pub fn fill(rows: &mut [u32], flags: &mut [u8], count: u16, servers: &[u32], states: &[u8])
     ensures { record { servers = rows.new; flags = flags.new }
-        ≡ filled count (in_state working servers.entry.now states.now) (in_state standby servers.entry.now states.now)
+        ≡ filled count (in_state working servers.now states.now) (in_state standby servers.now states.now)
         (record { servers = rows.old; flags = flags.old }) }
 {
     let n = in_use(count as usize, rows.len(), flags.len());
