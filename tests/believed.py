@@ -3,7 +3,8 @@
 Then what a reader of request [2]'s statements, crates/claims_captures/specs, has to believe besides.
 
 Prints the lines that stand in docs/DEMANDS.md between `believed: begin` and `believed: end`; with --check compares them.
-It reads the `use` lines: a file of specs/ counts whole, a declared type is a struct or an enum of src/.
+It reads the `use` lines: a file of specs/ counts whole, a declared type is a struct or an enum of src/. The toolchain's own words
+(`Rattle.std`) aren't counted.
 """
 import glob
 import os
@@ -11,13 +12,15 @@ import re
 import sys
 
 ROOT = os.path.dirname(os.path.dirname(os.path.abspath(__file__)))
-SPEC = re.compile(r"use Rattle·(\w+)(?:·specs)?\.specs(?:\.specs)?\.(\w+)(?:\.(\w+))?")
+SPEC = re.compile(r"use Rattle\.(\w+)\.specs\.(\w+)(?:\.(\w+))?")
 
 
 def cited(path):
     """The specs files and declared types that a file's `use` lines name."""
     files, types = set(), set()
     for crate, module, name in SPEC.findall(open(path, encoding="utf-8").read()):
+        if crate == "std":
+            continue
         if module == "declared":
             types.add((crate, name))
         else:
