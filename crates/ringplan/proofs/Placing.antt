@@ -78,6 +78,16 @@ pub record Placing (o₀ : List ℕ) (n k : ℕ) (o : List ℕ) (i : ℕ) : Type
   pub back : (j : ℕ) → i ≤ j → j < n → get_or o (suc j) 0 ≡ get_or o₀ j 0
   pub above : i < n → k < get_or o₀ i 0
 
+pub placing_none : (o : List ℕ) (n k : ℕ) → Placing o n k o n
+placing_none o n k =
+    record {
+      within = omega arith;
+      sized = refl;
+      front = λ j h. refl;
+      back = λ j h q. absurd (omega arith);
+      above = λ h. absurd (omega arith);
+    }
+
 -- a place that is written in two ways
 moved : (l : List ℕ) (i j : ℕ) → i ≡ j → get_or l i 0 ≡ get_or l j 0
 moved l i j e = ap (λ (m : ℕ). get_or l m 0) e
@@ -85,6 +95,27 @@ moved l i j e = ap (λ (m : ℕ). get_or l m 0) e
 module _ (o₀ : List ℕ) (n k : ℕ) (o : List ℕ) (i : ℕ) (room : n < length o₀) (a : Placing o₀ n k o i) where
   inside : i < length o
   inside = omega (arith, a.sized, a.within)
+
+  -- one more moves up
+  pub placing_moves : (p : ℕ) → suc p ≡ i → k < get_or o p 0 → Placing o₀ n k (set o i (get_or o p 0)) p
+  placing_moves p e q =
+      let v = get_or o p 0 in
+      let within = a.within in
+      record {
+        within = omega arith;
+        sized = length-set o i v ∙ a.sized;
+        front = λ j h. get_or-set_other o i j v 0 (λ z. omega arith) ∙ a.front j (omega arith);
+        back =
+            λ j h m. both
+            (eqb j p)
+            (λ t.
+            let z : j ≡ p = eqb-true j p t in
+            moved (set o i v) (suc j) i (omega arith) ∙ get_or-set_same o i v 0 inside ∙ a.front p (omega arith) ∙ moved o₀ p j (sym z))
+            (λ t.
+            let z : j ≡ p → ⊥ = eqb-false j p t in
+            get_or-set_other o i (suc j) v 0 (λ y. z (omega arith)) ∙ a.back j (omega arith) m);
+        above = λ h. omega (arith, a.front p (omega arith));
+      }
 
   -- it has its place
   module _ (r : Rising 0 (take n o₀)) (low : (j : ℕ) → suc j ≡ i → get_or o j 0 ≤ k) where

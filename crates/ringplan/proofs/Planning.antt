@@ -63,6 +63,12 @@ arranging_more servers order order' n i k some_left a l fit q e =
 pub arranging_rises : (servers order : List ℕ) (n i : ℕ) → ((j : ℕ) → get_or servers j 0 < 2 ^ 32) → Arranging servers order n i → Rising 0 (take n order)
 arranging_rises servers order n i fit a = rw a.so (keys_rising (drop i servers) (fit_drop servers i fit))
 
+pub arranging_done : (servers order : List ℕ) (n i : ℕ) → i ≤ 0 → Arranging servers order n i → take (length servers) order ≡ map key_of (arranged servers)
+arranging_done servers order n i end a =
+    let e : i ≡ 0 = omega arith in
+    let q : n ≡ length servers = omega (arith, a.counted) in
+    rw (e, q) at a.so
+
 -- all is ready to lay entries out: the servers' keys in order, and those of the working ones, of which there are m
 pub record Ready (held working order keys : List ℕ) (m : ℕ) : Type 0 where
   pub small : length held ≤ 64

@@ -1,14 +1,27 @@
--- A loop over servers with their states, at an index: what is left from there on decides the whole, and the ways on.
+-- Loops over keys, and over servers with their states, at an index: what is left from there on decides the whole, and the ways on.
 use Prim.Native.Nat.{ℕ, ◌+◌, ◌<◌, ◌≤◌}
+use mathlib.Core.Bool.{Bool, true, false}
 use mathlib.Core.List.{List, ◌∷◌, ◌++◌, map, append-nil}
-use mathlib.Core.Path.{◌≡◌, sym, ap, ◌∙◌}
+use mathlib.Core.Path.{◌≡◌, refl, sym, ap, ◌∙◌}
 use native.Mathlib.Numerals.{add-one}
 use native.Mathlib.Omega.{arith}
-use lib.ListN.{length, get_or, take, drop, set, length-set}
-use lib.Seq.{take-suc-set, append_snoc}
-use Rattle.sets.specs.Sets.{in_state}
+use lib.ListN.{length, get_or, take, drop, set, length-set, drop_of_length-le}
+use lib.Seq.{drop-cons, take-suc-set, append_snoc}
+use borrow.Author.Tests.{eq-eqb, ne_eqb}
+use Rattle.sets.specs.Sets.{member, in_state}
 use Rattle.ranking.proofs.Loop.{left_here, left_other, left_end, left_short}
 use Rattle.ringplan.specs.Keys.{key_of}
+
+-- whether a key is among others
+module _ (k : ℕ) (l : List ℕ) (i : ℕ) (W : Bool) (so : member k (drop i l) ≡ W) where
+  pub among_here : i < length l → get_or l i 0 ≡ k → true ≡ W
+  among_here h e = rw (drop-cons l i 0 h, eq-eqb k (get_or l i 0) (sym e)) at so
+
+  pub among_more : i < length l → (get_or l i 0 ≡ k → ⊥) → member k (drop (i + 1) l) ≡ W
+  among_more h n = rw add-one (rw (drop-cons l i 0 h, ne_eqb k (get_or l i 0) (λ e. n (sym e))) at so)
+
+  pub among_end : length l ≤ i → false ≡ W
+  among_end h = rw (drop_of_length-le l {i = i} h) at so
 
 -- the keys of the working ones of the first i servers stand in the first n places of a list
 pub record Collecting (ss xs keys : List ℕ) (n i : ℕ) : Type 0 where
@@ -16,6 +29,9 @@ pub record Collecting (ss xs keys : List ℕ) (n i : ℕ) : Type 0 where
   pub few : n ≤ i
   pub sized : length keys ≡ 64
   pub so : take n keys ++ map key_of (in_state 1 (drop i ss) (drop i xs)) ≡ map key_of (in_state 1 ss xs)
+
+pub collect_none : (ss xs keys : List ℕ) → length keys ≡ 64 → Collecting ss xs keys 0 0
+collect_none ss xs keys e = record { within = omega arith; few = omega arith; sized = e; so = refl }
 
 module _ (ss xs keys : List ℕ) (n i : ℕ) (c : Collecting ss xs keys n i) where
   -- what the places and the servers still to come make together
