@@ -19,6 +19,7 @@ use settings::Settings;
 use table::Found;
 
 // An end of connection: the first on the key's record half-closes it, the next takes it away.
+#[tactic(auto, using(crate::proofs::ByKind::end_8, crate::proofs::ByKind::end_5, crate::proofs::ByKind::end_6))]
 pub fn end(found: Found, table: &mut [u8]) -> Reply
     ensures { (key : List ℕ) (pick : Pick) (rows flags : List ℕ) (r : Roster)
         → replied result table.new rows flags r
