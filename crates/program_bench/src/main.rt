@@ -7,8 +7,8 @@
 
 #![tactic(auto)]
 
+mod arguments;
 mod keys;
-mod words;
 mod work;
 
 use ring::Entry;
@@ -71,8 +71,8 @@ fn owner(
 }
 
 fn main(rt: HostRuntime) {
-    let plan = words::plan(&rt);
-    if !words::fit(plan) {
+    let plan = arguments::plan(&rt);
+    if !arguments::fit(plan) {
         let _ = rt.stderr().write_all(
             b"usage: bench METHOD SERVERS HORIZON RECORDS PACKETS CHANGES (METHOD 1 to 3, SERVERS up to 64, HORIZON below SERVERS, RECORDS up to 3276)\n",
         );
