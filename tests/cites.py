@@ -53,6 +53,8 @@ def everywhere():
     """Every name that some crate defines, the crates' own and those of the must-fail edits among them."""
     found = set(WORDS) | set(os.listdir(os.path.join(ROOT, "crates")))
     for path in glob.glob(os.path.join(ROOT, "crates", "*", "**", "*"), recursive=True):
+        if os.sep + "out" + os.sep in path:         # what rt made of the sources
+            continue
         if path.endswith((".antt", ".rt")):
             found |= defined(os.path.relpath(path, os.path.join(ROOT, "crates")))
         if path.endswith(".edit"):
