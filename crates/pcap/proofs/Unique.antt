@@ -1,4 +1,4 @@
--- No second answer keeps the promise of a covered function of this crate (UniqueReaders has those over a reader). `Learnt` is what a caller
+-- No second answer keeps the promise of a function of this crate (UniqueReaders has those over a reader). `Learnt` is what a caller
 -- learns from the function's contract.
 use Rattle.std.proofs.Common.{◌≡◌, ℕ, Bool}
 use Rattle.pcap.specs.declared.Step.{Step}

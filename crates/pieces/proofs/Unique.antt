@@ -1,4 +1,4 @@
--- No second answer keeps the promise of a public function of this crate (`fill_events` is walked, and has its own in UniqueFilling).
+-- No second answer keeps the promise of a public function of this crate (that of `fill_events` is in UniqueFilling).
 -- `Learnt` is what a caller learns from the function's contract; of a lent buffer, what it holds afterwards is part of the answer.
 use Rattle.std.proofs.Common.{◌≡◌, sym, ◌∙◌}
 use Rattle.pieces.specs.declared.Kept.{Kept}

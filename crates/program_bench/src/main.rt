@@ -52,7 +52,7 @@ fn run(
     }
 }
 
-// The ring's owner. Its parameters are plain, so that whoever calls it is covered.
+// The ring's owner: a ring of zeros, handed on.
 fn owner(
     output: &impl Print,
     record: &mut [u8],

@@ -54,7 +54,7 @@ fn run(
     place.unread
 }
 
-// The ring's owner. Its parameters are plain, so that whoever calls it is covered.
+// The ring's owner: a ring of zeros, handed on.
 fn owner(
     input: &mut impl Read,
     output: &impl Print,

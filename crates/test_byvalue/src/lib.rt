@@ -1,4 +1,4 @@
-// The balancer with the ring by value, for programs that are covered whole.
+// The balancer with the ring by value.
 
 #![tactic(auto)]
 
