@@ -4,7 +4,6 @@ ghost use Rattle.std.specs.Prelude.{◌-◌, ◌≤◌, length};
 use crate::blocks;
 use crate::blocks::{HALF, LAST, Place};
 use answers::ReplyNumbers;
-use itoa::Buffer;
 use rules::Reply;
 use std::io::Read;
 
@@ -109,17 +108,30 @@ fn put(buffer: &mut [u8], at: usize, number: u64, behind: u8) -> usize {
     if at > buffer.len() - 21 {
         return at;
     }
-    let mut room = Buffer::new();
-    let digits = room.format(number).as_bytes();
-    let n = digits.len();
-    if n > 20 {
-        return at;
-    }
-    let mut i = 0;
-    while i < n {
-        buffer[at + i] = digits[i];
-        i += 1;
+    let n = digits(number);
+    let mut rest = number;
+    let mut i = n;
+    while i > 0 {
+        i -= 1;
+        buffer[at + i] = b'0' + (rest % 10) as u8;
+        rest /= 10;
     }
     buffer[at + n] = behind;
     at + n + 1
+}
+
+// How many digits a number has.
+fn digits(number: u64) -> usize
+    ensures { result ≤ 20 }
+{
+    let mut rest = number / 10;
+    let mut n = 1;
+    while n < 20 {
+        if rest == 0 {
+            break;
+        }
+        rest /= 10;
+        n += 1;
+    }
+    n
 }
