@@ -18,7 +18,7 @@ PAIR = re.compile(r"((?:`[^`\n]+`(?:,| and|;)?\s+)+)(?:in\s+|\()" + PATH)
 CODE = re.compile(r"\s*(?:pub(?:\(crate\))? )?(?:fn|struct|enum|const) (\w+)|\s*pub (\w+):")
 LOGIC = re.compile(r"\s*(?:(?:abbrev|unfoldable) )?(?:pub )?(?:record |data )?([A-Za-z][\w′'-]*)(?:\s*:|\s*\(|\s*$)")
 
-WORDS = set("""jet setsid stdbuf explain summary sh bin rattle-kit-13f rt lib mod full twin std itoa io libc os Copy Err Wait abbrev const
+WORDS = set("""jet setsid stdbuf explain summary sh bin rattle-kit-13f rt lib mod full twin std io libc os Copy Err Wait abbrev const
 ensures requires Learnt clauses Reads""".split())
 
 
