@@ -7,6 +7,7 @@
 //               for the one after each of 20 turns: records used, sessions that found no room, sessions led elsewhere although
 //               their mover worked, sessions whose mover had left work
 //     joins     the same, with one standby joining after the other and nobody leaving
+// Once nobody reads them any more it ends, with the status that the signal PIPE would give.
 
 #![tactic(auto)]
 
@@ -19,35 +20,46 @@ mod rounds;
 mod say;
 mod shares;
 
+use std::io;
+use std::process::ExitCode;
+
 // What every one of 20,000 keys gets, by each method.
-fn over_keys(output: &impl Print) {
+fn over_keys(output: &impl Print) -> io::Result<()> {
     let mut points = [0u32; 20000];
     keys::points(&mut points);
-    evenness::of(output, &points, 1);
-    evenness::of(output, &points, 0);
-    shares::all(output, &points);
+    evenness::of(output, &points, 1)?;
+    evenness::of(output, &points, 0)?;
+    shares::all(output, &points)
 }
 
 // What sessions meet, packet by packet, at a table of 3,276 records.
-fn over_sessions(output: &impl Print) {
+fn over_sessions(output: &impl Print) -> io::Result<()> {
     let mut table = [0u8; table::MOST_TABLE_BYTES];
     let mut few = [0u32; 3000];
     let mut more = [0u32; 8000];
-    rounds::turns(output, &mut table, &mut few, 15, 10);
-    rounds::turns(output, &mut table, &mut few, 14, 10);
-    rounds::turns(output, &mut table, &mut few, 12, 10);
-    rounds::turns(output, &mut table, &mut more, 15, 1);
+    rounds::turns(output, &mut table, &mut few, 15, 10)?;
+    rounds::turns(output, &mut table, &mut few, 14, 10)?;
+    rounds::turns(output, &mut table, &mut few, 12, 10)?;
+    rounds::turns(output, &mut table, &mut more, 15, 1)?;
     let mut margin = [0u32; 24954];
     let mut mean = [0u32; 26208];
     let mut above = [0u32; 28000];
     let mut most = [0u32; 30000];
-    rounds::joins(output, &mut table, &mut margin);
-    rounds::joins(output, &mut table, &mut mean);
-    rounds::joins(output, &mut table, &mut above);
-    rounds::joins(output, &mut table, &mut most);
+    rounds::joins(output, &mut table, &mut margin)?;
+    rounds::joins(output, &mut table, &mut mean)?;
+    rounds::joins(output, &mut table, &mut above)?;
+    rounds::joins(output, &mut table, &mut most)
 }
 
-fn main(rt: HostRuntime) {
-    over_keys(&rt);
-    over_sessions(&rt);
+// All figures.
+fn figures(output: &impl Print) -> io::Result<()> {
+    over_keys(output)?;
+    over_sessions(output)
+}
+
+fn main(rt: HostRuntime) -> ExitCode {
+    match figures(&rt) {
+        Ok(()) => ExitCode::SUCCESS,
+        Err(_) => ExitCode::from(141),
+    }
 }

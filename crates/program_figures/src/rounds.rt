@@ -1,5 +1,6 @@
 // Rounds of packets, with a change of the movers behind each: how many records are used, who found no room, who was led elsewhere.
 use crate::{door, numbers, say};
+use std::io;
 
 // Movers held.
 const MOVERS: usize = 16;
@@ -31,16 +32,16 @@ fn show(
     joining: usize,
     rounds: usize,
     turns: bool,
-) {
+) -> io::Result<()> {
     let mut k = 0;
     while k < rounds {
         let sent = door::round(table, servers, states, last);
-        say::number(output, say::low(table::used(table)));
-        say::three(output, sent.no_room, sent.moved, sent.left);
+        say::number(output, say::low(table::used(table)))?;
+        say::three(output, sent.no_room, sent.moved, sent.left)?;
         change(table, servers, states, joining, k, turns);
         k += 1;
     }
-    say::end(output);
+    say::end(output)
 }
 
 // A draw's line: working, horizon, sessions; then the rounds.
@@ -52,12 +53,12 @@ fn line(
     working: u32,
     rounds: usize,
     turns: bool,
-) {
+) -> io::Result<()> {
     let mut states = [0u8; MOVERS];
     numbers::states(&mut states, working as usize);
     table::start(table);
     door::forget(last);
-    say::three(output, working, 16 - working % 17, say::low(last.len()));
+    say::three(output, working, 16 - working % 17, say::low(last.len()))?;
     show(
         output,
         table,
@@ -67,7 +68,7 @@ fn line(
         working as usize,
         rounds,
         turns,
-    );
+    )
 }
 
 // 16 movers that take turns, of which so many work: a line of 21 rounds for each draw of their numbers.
@@ -77,22 +78,23 @@ pub(crate) fn turns(
     last: &mut [u32],
     working: u32,
     draws: u32,
-) {
+) -> io::Result<()> {
     let mut servers = [0u32; MOVERS];
     let mut x = numbers::start(1);
     let mut draw: u32 = 0;
     while draw < draws {
         x = numbers::draw(&mut servers, 1, x);
-        say::word(output, b"turns");
-        line(output, table, &servers, last, working, 21, true);
+        say::word(output, b"turns")?;
+        line(output, table, &servers, last, working, 21, true)?;
         draw += 1;
     }
+    Ok(())
 }
 
 // 14 movers at work; the two that stand by join one after the other, and nobody leaves.
-pub(crate) fn joins(output: &impl Print, table: &mut [u8], last: &mut [u32]) {
+pub(crate) fn joins(output: &impl Print, table: &mut [u8], last: &mut [u32]) -> io::Result<()> {
     let mut servers = [0u32; MOVERS];
     numbers::draw(&mut servers, 1, numbers::start(1));
-    say::word(output, b"joins");
-    line(output, table, &servers, last, 14, 3, false);
+    say::word(output, b"joins")?;
+    line(output, table, &servers, last, 14, 3, false)
 }

@@ -1,32 +1,42 @@
-// Numbers on standard output.
+// Numbers on standard output. Once nobody reads it any more, the write that failed ends the program.
+use std::io::{self, ErrorKind};
+
+// What a write comes to: an error where nobody reads any more. Text that is not taken for another reason, as by a full disk,
+// is lost, and the program goes on.
+fn outcome(written: io::Result<()>) -> io::Result<()> {
+    match written {
+        Err(e) if e.kind() == ErrorKind::BrokenPipe => Err(e),
+        _ => Ok(()),
+    }
+}
 
 // One character.
-fn letter(output: &impl Print, c: u8) {
+fn letter(output: &impl Print, c: u8) -> io::Result<()> {
     let one = [c];
-    let _ = output.write_all(&one);
+    outcome(output.write_all(&one))
 }
 
 // A space, and a number.
-pub(crate) fn number(output: &impl Print, n: u32) {
-    letter(output, b' ');
-    let _ = output.print(n);
+pub(crate) fn number(output: &impl Print, n: u32) -> io::Result<()> {
+    letter(output, b' ')?;
+    outcome(output.print(n))
 }
 
 // Three numbers.
-pub(crate) fn three(output: &impl Print, a: u32, b: u32, c: u32) {
-    number(output, a);
-    number(output, b);
-    number(output, c);
+pub(crate) fn three(output: &impl Print, a: u32, b: u32, c: u32) -> io::Result<()> {
+    number(output, a)?;
+    number(output, b)?;
+    number(output, c)
 }
 
 // A word that begins a line.
-pub(crate) fn word(output: &impl Print, text: &[u8]) {
-    let _ = output.write_all(text);
+pub(crate) fn word(output: &impl Print, text: &[u8]) -> io::Result<()> {
+    outcome(output.write_all(text))
 }
 
 // A line ends.
-pub(crate) fn end(output: &impl Print) {
-    letter(output, 10);
+pub(crate) fn end(output: &impl Print) -> io::Result<()> {
+    letter(output, 10)
 }
 
 // A number as 32 bits.
