@@ -2,6 +2,7 @@
 use crate::keys;
 use answers::ReplyNumbers;
 use rules::Reply;
+use std::io::{self, ErrorKind};
 
 // What the program's words ask for.
 #[derive(Clone, Copy)]
@@ -34,6 +35,14 @@ pub struct Tally {
     pub refused: u64,
 }
 
+// Whether one more event comes: one does, or all are done, or nobody reads the lines any more.
+#[derive(Clone, Copy)]
+pub enum More {
+    Yes,
+    No,
+    Unread,
+}
+
 // How far the work is: events done in this phase, the generator's number, keys sent while filling.
 #[derive(Clone, Copy)]
 pub struct Work {
@@ -42,7 +51,7 @@ pub struct Work {
     pub x: u64,
     pub keys: u64,
     pub tally: Tally,
-    pub more: bool,
+    pub more: More,
 }
 
 // Before the first event.
@@ -57,7 +66,7 @@ pub(crate) fn begun() -> Work {
             used: 0,
             refused: 0,
         },
-        more: true,
+        more: More::Yes,
     }
 }
 
@@ -199,7 +208,9 @@ fn filling(output: &impl Print, p: Plan, w: Work) -> Work {
             return w;
         }
     }
-    line(output, b"filled ", w);
+    if line(output, b"filled ", w).is_err() {
+        return ended(w, More::Unread);
+    }
     let v = with(w, Phase::Sending, 0);
     if p.packets > 0 {
         return v;
@@ -209,7 +220,9 @@ fn filling(output: &impl Print, p: Plan, w: Work) -> Work {
 
 // All packets are sent.
 fn sent(output: &impl Print, p: Plan, w: Work) -> Work {
-    line(output, b"packets ", w);
+    if line(output, b"packets ", w).is_err() {
+        return ended(w, More::Unread);
+    }
     changing(output, p, with(w, Phase::Leaving, 0))
 }
 
@@ -218,21 +231,37 @@ fn changing(output: &impl Print, p: Plan, w: Work) -> Work {
     if w.done < p.changes {
         return with(w, Phase::Joining, w.done);
     }
-    line(output, b"changes ", w);
+    match line(output, b"changes ", w) {
+        Ok(()) => ended(w, More::No),
+        Err(_) => ended(w, More::Unread),
+    }
+}
+
+// The work with no event to come.
+fn ended(w: Work, more: More) -> Work {
     let mut v = w;
-    v.more = false;
+    v.more = more;
     v
 }
 
+// What a write comes to: an error where nobody reads any more. Text that is not taken for another reason, as by a full disk,
+// is lost, and the program goes on.
+pub(crate) fn outcome(written: io::Result<()>) -> io::Result<()> {
+    match written {
+        Err(e) if e.kind() == ErrorKind::BrokenPipe => Err(e),
+        _ => Ok(()),
+    }
+}
+
 // Prints a line: a part's name, the checksum so far, used records, keys sent, refusals.
-fn line(output: &impl Print, part: &[u8], w: Work) {
-    let _ = output.write_all(part);
-    let _ = output.print(w.tally.sum);
-    let _ = output.write_all(b" ");
-    let _ = output.print(w.tally.used);
-    let _ = output.write_all(b" ");
-    let _ = output.print(w.keys);
-    let _ = output.write_all(b" ");
-    let _ = output.print(w.tally.refused);
-    let _ = output.write_all(b"\n");
+fn line(output: &impl Print, part: &[u8], w: Work) -> io::Result<()> {
+    outcome(output.write_all(part))?;
+    outcome(output.print(w.tally.sum))?;
+    outcome(output.write_all(b" "))?;
+    outcome(output.print(w.tally.used))?;
+    outcome(output.write_all(b" "))?;
+    outcome(output.print(w.keys))?;
+    outcome(output.write_all(b" "))?;
+    outcome(output.print(w.tally.refused))?;
+    outcome(output.write_all(b"\n"))
 }
