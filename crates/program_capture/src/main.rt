@@ -1,6 +1,7 @@
 // The capture program: a capture on standard input becomes event records on standard output; a line on standard error says
 // how many packets there were, and why some were skipped. Memory is constant, however long the capture is. Once nobody reads
-// the events any more it ends with no line, and with the status that the signal PIPE would give.
+// the events any more it ends with no line, and with the status that the signal PIPE would give; with that status too where nobody
+// reads the line.
 
 #![tactic(auto)]
 
@@ -190,9 +191,9 @@ fn main(rt: HostRuntime) -> ExitCode {
     let done = run(&mut input, &rt, &mut buffer, &mut out);
     match done.written {
         Written::Unread => ExitCode::from(141),
-        _ => {
-            report::say(&rt.stderr(), &buffer, done);
-            ExitCode::SUCCESS
-        }
+        _ => match report::say(&rt.stderr(), &buffer, done) {
+            Ok(()) => ExitCode::SUCCESS,
+            Err(_) => ExitCode::from(141),
+        },
     }
 }

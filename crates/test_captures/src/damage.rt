@@ -1,40 +1,43 @@
 // A capture that is cut, or changed in one byte.
 use crate::numbers::OFFSET;
 use crate::{numbers, text};
+use std::io;
 
 // The longest capture that is cut and changed.
 const SMALL: usize = 240;
 
 // The lines for a small capture's beginnings and changed bytes.
-pub(crate) fn damaged(output: &impl Print, capture: &mut [u8], out: &mut [u8]) {
+pub(crate) fn damaged(output: &impl Print, capture: &mut [u8], out: &mut [u8]) -> io::Result<()> {
     if capture.len() > SMALL {
-        return;
+        return Ok(());
     }
-    prefixes(output, capture, out);
-    changed(output, capture, out);
+    prefixes(output, capture, out)?;
+    changed(output, capture, out)
 }
 
 // A line for each beginning of a capture.
-fn prefixes(output: &impl Print, capture: &[u8], out: &mut [u8]) {
+fn prefixes(output: &impl Print, capture: &[u8], out: &mut [u8]) -> io::Result<()> {
     let mut n = 0;
     while n <= capture.len() {
-        text::start(output, b"prefix");
-        text::number(output, n as u64);
-        numbers::print(output, numbers::come_to(&capture[..n], out));
+        text::start(output, b"prefix")?;
+        text::number(output, n as u64)?;
+        numbers::print(output, numbers::come_to(&capture[..n], out))?;
         n += 1;
     }
+    Ok(())
 }
 
 // A line for each byte of a capture: all its other values, in one digest.
-fn changed(output: &impl Print, capture: &mut [u8], out: &mut [u8]) {
+fn changed(output: &impl Print, capture: &mut [u8], out: &mut [u8]) -> io::Result<()> {
     let mut i = 0;
     while i < capture.len() {
-        text::start(output, b"changed");
-        text::number(output, i as u64);
-        text::number(output, others(capture, i, out));
-        text::end(output);
+        text::start(output, b"changed")?;
+        text::number(output, i as u64)?;
+        text::number(output, others(capture, i, out))?;
+        text::end(output)?;
         i += 1;
     }
+    Ok(())
 }
 
 // A byte's 255 other values, one after the other; it is then as it was.

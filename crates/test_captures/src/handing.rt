@@ -4,6 +4,7 @@ ghost use Rattle.std.specs.Prelude.{◌≤◌};
 use crate::numbers::{Numbers, OFFSET};
 use crate::{numbers, text};
 use pieces::Stream;
+use std::io;
 
 // The longest capture of which every two cuts are tried.
 const TWO_CUTS: usize = 240;
@@ -15,10 +16,10 @@ pub(crate) fn buffers(
     whole: Numbers,
     buffer: &mut [u8],
     out: &mut [u8],
-) {
-    ways(output, capture, whole, buffer, out, 129);
-    ways(output, capture, whole, buffer, out, 150);
-    ways(output, capture, whole, buffer, out, 400);
+) -> io::Result<()> {
+    ways(output, capture, whole, buffer, out, 129)?;
+    ways(output, capture, whole, buffer, out, 150)?;
+    ways(output, capture, whole, buffer, out, 400)
 }
 
 // In how many ways a capture comes to the same, with a buffer of some length.
@@ -29,18 +30,18 @@ fn ways(
     buffer: &mut [u8],
     out: &mut [u8],
     len: usize,
-) {
+) -> io::Result<()> {
     if len > buffer.len() {
-        return;
+        return Ok(());
     }
     let part: &mut [u8] = &mut buffer[..len];
     let some = sizes(capture, whole, part, out);
     let more = cuts(capture, whole, part, out);
-    text::start(output, b"pieces");
-    text::number(output, len as u64);
-    let _ = output.write_all(b" ways");
-    text::number(output, std::num::wrapping_add_u64(some, more));
-    text::end(output);
+    text::start(output, b"pieces")?;
+    text::number(output, len as u64)?;
+    inputs::heard(output.write_all(b" ways"))?;
+    text::number(output, std::num::wrapping_add_u64(some, more))?;
+    text::end(output)
 }
 
 // Pieces of one length, for each length: in how many the capture comes to the same.

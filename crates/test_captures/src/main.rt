@@ -1,5 +1,6 @@
 // Test program: captures on standard input, each behind its length in four bytes. Prints what each comes to: as it is, every
-// beginning of it, with every byte changed in every way, and handed over in pieces.
+// beginning of it, with every byte changed in every way, and handed over in pieces. Once nobody reads the lines any more the
+// program ends, with the status that the signal PIPE would give.
 
 #![tactic(auto)]
 
@@ -8,19 +9,29 @@ mod handing;
 mod numbers;
 mod text;
 
+use std::io;
+use std::process::ExitCode;
+
 // All captures of the input, one after the other.
-fn each(output: &impl Print, input: &mut [u8], have: usize, buffer: &mut [u8], out: &mut [u8]) {
+fn each(
+    output: &impl Print,
+    input: &mut [u8],
+    have: usize,
+    buffer: &mut [u8],
+    out: &mut [u8],
+) -> io::Result<()> {
     let mut at = 0;
     let mut left = have;
     while left >= 4 {
         let size = length_at(input, at);
         if size > left - 4 {
-            return;
+            return Ok(());
         }
-        one(output, input, at + 4, size, buffer, out);
+        one(output, input, at + 4, size, buffer, out)?;
         at += 4 + size;
         left -= 4 + size;
     }
+    Ok(())
 }
 
 // The length that stands before a capture; 0 where there is none.
@@ -42,25 +53,28 @@ fn one(
     size: usize,
     buffer: &mut [u8],
     out: &mut [u8],
-) {
+) -> io::Result<()> {
     if at > input.len() {
-        return;
+        return Ok(());
     }
     if size > input.len() - at {
-        return;
+        return Ok(());
     }
     let capture: &mut [u8] = &mut input[at..at + size];
     let whole = numbers::come_to(capture, out);
-    text::start(output, b"whole");
-    numbers::print(output, whole);
-    damage::damaged(output, capture, out);
-    handing::buffers(output, capture, whole, buffer, out);
+    text::start(output, b"whole")?;
+    numbers::print(output, whole)?;
+    damage::damaged(output, capture, out)?;
+    handing::buffers(output, capture, whole, buffer, out)
 }
 
-fn main(rt: HostRuntime) {
+fn main(rt: HostRuntime) -> ExitCode {
     let mut input = [0u8; 65536];
     let mut buffer = [0u8; 2048];
     let mut out = [0u8; 16384];
     let have = inputs::read_full(&mut rt.stdin(), &mut input);
-    each(&rt, &mut input, have, &mut buffer, &mut out);
+    match each(&rt, &mut input, have, &mut buffer, &mut out) {
+        Ok(()) => ExitCode::SUCCESS,
+        Err(_) => ExitCode::from(141),
+    }
 }

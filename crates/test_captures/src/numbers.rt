@@ -1,6 +1,7 @@
 // What a capture comes to, in ten numbers.
 use crate::text;
 use pcap::{Said, Tally};
+use std::io;
 
 // The sums, the refusal and the byte where it stands, and a digest of the events.
 #[derive(Clone, Copy)]
@@ -63,19 +64,19 @@ pub(crate) fn step(h: u64, n: u64) -> u64 {
 }
 
 // The numbers behind a word, and the line's end.
-pub(crate) fn print(output: &impl Print, n: Numbers) {
+pub(crate) fn print(output: &impl Print, n: Numbers) -> io::Result<()> {
     let t = n.tally;
-    text::number(output, t.read);
-    text::number(output, t.emitted);
-    text::number(output, t.linktype);
-    text::number(output, t.notipv4);
-    text::number(output, t.fragment);
-    text::number(output, t.other);
-    text::number(output, t.short);
-    text::number(output, n.refusal as u64);
-    text::number(output, n.at);
-    text::number(output, n.digest);
-    text::end(output);
+    text::number(output, t.read)?;
+    text::number(output, t.emitted)?;
+    text::number(output, t.linktype)?;
+    text::number(output, t.notipv4)?;
+    text::number(output, t.fragment)?;
+    text::number(output, t.other)?;
+    text::number(output, t.short)?;
+    text::number(output, n.refusal as u64)?;
+    text::number(output, n.at)?;
+    text::number(output, n.digest)?;
+    text::end(output)
 }
 
 // A digest with all the numbers taken in.

@@ -1,24 +1,32 @@
 // Event records, taken apart.
 use crate::say;
 use event::Ask;
+use std::io;
 
 // An event in numbers: refusal, kind, server, method, rows.
-fn numbers(output: &impl Print, refusal: u8, kind: u8, server: u32, method: u8, rows: u16) {
-    say::number(output, refusal as u64);
-    say::number(output, kind as u64);
-    say::number(output, server as u64);
-    say::number(output, method as u64);
-    say::number(output, rows as u64);
+fn numbers(
+    output: &impl Print,
+    refusal: u8,
+    kind: u8,
+    server: u32,
+    method: u8,
+    rows: u16,
+) -> io::Result<()> {
+    say::number(output, refusal as u64)?;
+    say::number(output, kind as u64)?;
+    say::number(output, server as u64)?;
+    say::number(output, method as u64)?;
+    say::number(output, rows as u64)
 }
 
 // A packet or an end, with its key.
-fn keyed(output: &impl Print, kind: u8, key: [u8; 13]) {
-    numbers(output, 0, kind, 0, 0, 0);
-    say::bytes(output, &key);
+fn keyed(output: &impl Print, kind: u8, key: [u8; 13]) -> io::Result<()> {
+    numbers(output, 0, kind, 0, 0, 0)?;
+    say::bytes(output, &key)
 }
 
 // What an event asks, in numbers; a refused one asks nothing.
-fn told(output: &impl Print, ask: Ask, key: [u8; 13]) {
+fn told(output: &impl Print, ask: Ask, key: [u8; 13]) -> io::Result<()> {
     match ask {
         Ask::Packet => keyed(output, 1, key),
         Ask::End => keyed(output, 2, key),
@@ -32,9 +40,9 @@ fn told(output: &impl Print, ask: Ask, key: [u8; 13]) {
 }
 
 // What a record asks.
-pub(crate) fn asked(output: &impl Print, record: &[u8]) {
+pub(crate) fn asked(output: &impl Print, record: &[u8]) -> io::Result<()> {
     let e = event::read(record);
     let ask = e.ask;
     let key = e.key;
-    told(output, ask, key);
+    told(output, ask, key)
 }

@@ -2,6 +2,7 @@
 use crate::script::Step;
 use crate::{picks, rings, rowsets};
 use roster::Roster;
+use std::io;
 
 // One server more, working (1) or in the horizon (2), where there is room.
 fn with(r: Roster, server: u32, state: u8) -> Roster {
@@ -49,15 +50,15 @@ fn shown(
     states: &[u8],
     held: usize,
     s: Step,
-) {
+) -> io::Result<()> {
     if places.len() < held {
-        return;
+        return Ok(());
     }
     let servers = &places[0..held];
     rowsets::change(chosen, flags, servers, states, s.op, s.b);
-    rowsets::show(output, chosen, flags, s.op, s.a, s.b);
-    picks::show(output, servers, states, s.op, s.a, s.b);
-    rings::show(output, servers, states, s.op, s.b);
+    rowsets::show(output, chosen, flags, s.op, s.a, s.b)?;
+    picks::show(output, servers, states, s.op, s.a, s.b)?;
+    rings::show(output, servers, states, s.op, s.b)
 }
 
 // A step is done, and its outcome printed. The servers from then on.
@@ -67,10 +68,10 @@ pub(crate) fn step(
     flags: &mut [u8],
     r: Roster,
     s: Step,
-) -> Roster {
+) -> io::Result<Roster> {
     let next = changed(r, s.op, s.b);
     let servers = next.servers;
     let states = next.states;
-    shown(output, chosen, flags, &servers, &states, next.held, s);
-    next
+    shown(output, chosen, flags, &servers, &states, next.held, s)?;
+    Ok(next)
 }

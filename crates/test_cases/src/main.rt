@@ -1,6 +1,7 @@
 // Cases of the leaves and of the methods: both sides of each limit of settings, rosters, event records and tables, and damaged ones of every
 // kind; then rows filled, HRW picks and rings planned for given servers. The cases stand in the file stdin, section by section; each line
-// is printed with its outcome. What must be printed stands in the file stdout, worked out from document 01.
+// is printed with its outcome. What must be printed stands in the file stdout, worked out from document 01. Once nobody reads the lines
+// any more the program ends, with the status that the signal PIPE would give.
 
 #![tactic(auto)]
 
@@ -16,6 +17,8 @@ mod tables;
 
 use roster::Roster;
 use script::Step;
+use std::io;
+use std::process::ExitCode;
 
 // The sections: settings and rosters; event records and tables; the methods.
 #[derive(Clone, Copy)]
@@ -60,24 +63,24 @@ fn step(
     k: Kept,
     s: Step,
     c: u8,
-) -> Kept {
+) -> io::Result<Kept> {
     let part = k.part;
     let roster = k.roster;
     let mut next = k;
     match part {
         Part::Rosters => {
-            let changed = rosters::step(output, roster, s, c);
+            let changed = rosters::step(output, roster, s, c)?;
             next.roster = changed;
         }
         Part::Tables => {
-            next.size = tables::step(output, buffer, k.size, s);
+            next.size = tables::step(output, buffer, k.size, s)?;
         }
         Part::Methods => {
-            let changed = given::step(output, chosen, flags, roster, s);
+            let changed = given::step(output, chosen, flags, roster, s)?;
             next.roster = changed;
         }
     }
-    next
+    Ok(next)
 }
 
 // What a character does: it is printed, but for an equals sign, which begins the next section; a step's end does the step before that.
@@ -89,39 +92,49 @@ fn turn(
     k: Kept,
     s: Step,
     c: u8,
-) -> Kept {
+) -> io::Result<Kept> {
     let part = k.part;
     if c == b'=' {
-        return begun(after(part));
+        return Ok(begun(after(part)));
     }
     if !script::ends(c) {
-        say::letter(output, c);
-        return k;
+        say::letter(output, c)?;
+        return Ok(k);
     }
-    let next = step(output, buffer, chosen, flags, k, s, c);
-    say::letter(output, c);
-    next
+    let next = step(output, buffer, chosen, flags, k, s, c)?;
+    say::letter(output, c)?;
+    Ok(next)
 }
 
 // Every character.
-fn run(output: &impl Print, buffer: &mut [u8], chosen: &mut [u32], flags: &mut [u8], cases: &[u8]) {
+fn run(
+    output: &impl Print,
+    buffer: &mut [u8],
+    chosen: &mut [u32],
+    flags: &mut [u8],
+    cases: &[u8],
+) -> io::Result<()> {
     let mut k = begun(Part::Rosters);
     let mut s = script::blank();
     let mut i = 0;
     while i < cases.len() {
         let c = cases[i];
         i += 1;
-        k = turn(output, buffer, chosen, flags, k, s, c);
+        k = turn(output, buffer, chosen, flags, k, s, c)?;
         s = script::read(s, c);
     }
+    Ok(())
 }
 
 // The cases from standard input, on a table of 3,277 places, rows and flags that someone else wrote.
-fn main(rt: HostRuntime) {
+fn main(rt: HostRuntime) -> ExitCode {
     let mut buffer = [255u8; 65540];
     let mut chosen = [99u32; 4096];
     let mut flags = [9u8; 4096];
     let mut cases = [0u8; 65536];
     let n = inputs::read_full(&mut rt.stdin(), &mut cases);
-    run(&rt, &mut buffer, &mut chosen, &mut flags, &cases[..n]);
+    match run(&rt, &mut buffer, &mut chosen, &mut flags, &cases[..n]) {
+        Ok(()) => ExitCode::SUCCESS,
+        Err(_) => ExitCode::from(141),
+    }
 }

@@ -3,6 +3,7 @@ use crate::say;
 use crate::script::Step;
 use roster::Roster;
 use settings::Settings;
+use std::io;
 
 // The first n of the servers 10, 20, 30, .. taken into the horizon.
 fn up_to(n: u32) -> Roster {
@@ -59,20 +60,20 @@ fn changed(r: Roster, op: u8, a: u32, b: u32) -> Roster {
 }
 
 // The number held, 1 for a sound roster, 1 for valid settings, and a server's state.
-fn shown(output: &impl Print, r: Roster, server: u32) {
-    say::letter(output, b':');
-    say::number(output, r.held as u64);
-    say::number(output, roster::sound(r) as u64);
-    say::number(output, settings::valid(r.settings) as u64);
-    say::number(output, roster::state_of(r, server) as u64);
+fn shown(output: &impl Print, r: Roster, server: u32) -> io::Result<()> {
+    say::letter(output, b':')?;
+    say::number(output, r.held as u64)?;
+    say::number(output, roster::sound(r) as u64)?;
+    say::number(output, settings::valid(r.settings) as u64)?;
+    say::number(output, roster::state_of(r, server) as u64)
 }
 
 // A step is done. At a line's end the outcome is printed, with the state of the last number; the next line starts anew.
-pub(crate) fn step(output: &impl Print, r: Roster, s: Step, c: u8) -> Roster {
+pub(crate) fn step(output: &impl Print, r: Roster, s: Step, c: u8) -> io::Result<Roster> {
     let next = changed(r, s.op, s.a, s.b);
     if c != 10 {
-        return next;
+        return Ok(next);
     }
-    shown(output, next, s.b);
-    roster::empty()
+    shown(output, next, s.b)?;
+    Ok(roster::empty())
 }

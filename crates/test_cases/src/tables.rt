@@ -1,6 +1,7 @@
 // Tables damaged, full, and longer than allowed, and event records in the same buffer.
 use crate::script::Step;
 use crate::{events, say};
+use std::io;
 use table::Found;
 
 // The n-th key: 10.0.h.l to 192.0.2.1, port n to port 443, protocol 6.
@@ -52,7 +53,7 @@ fn change(t: &mut [u8], op: u8, a: u32, b: u32) {
 }
 
 // A key's record: whether there is one, its place or how many records were read in vain, and the server that it names.
-fn seek(output: &impl Print, t: &[u8], n: u32) {
+fn seek(output: &impl Print, t: &[u8], n: u32) -> io::Result<()> {
     let found = table::find(t, key_of(n));
     match found {
         Found::At(place) => say::three(output, 1, place as u64, table::server_at(t, place) as u64),
@@ -61,7 +62,7 @@ fn seek(output: &impl Print, t: &[u8], n: u32) {
 }
 
 // What a step shows: a key's record, a place's tag, what the bytes ask as an event record, a hash or dump of the bytes, how many bytes there are, or records used.
-fn show(output: &impl Print, t: &[u8], op: u8, b: u32) {
+fn show(output: &impl Print, t: &[u8], op: u8, b: u32) -> io::Result<()> {
     match op {
         b'k' => seek(output, t, b),
         b'w' => say::number(output, table::tag_at(t, b as usize) as u64),
@@ -70,19 +71,24 @@ fn show(output: &impl Print, t: &[u8], op: u8, b: u32) {
         b'd' => say::bytes(output, t),
         b'b' => say::number(output, t.len() as u64),
         b'u' => say::number(output, table::used(t) as u64),
-        _ => (),
+        _ => Ok(()),
     }
 }
 
 // A step is done on a buffer's first bytes, and its outcome printed. How many bytes to take from then on.
-pub(crate) fn step(output: &impl Print, buffer: &mut [u8], size: usize, s: Step) -> usize {
+pub(crate) fn step(
+    output: &impl Print,
+    buffer: &mut [u8],
+    size: usize,
+    s: Step,
+) -> io::Result<usize> {
     if s.op == b't' {
-        return s.b as usize;
+        return Ok(s.b as usize);
     }
     if buffer.len() < size {
-        return size;
+        return Ok(size);
     }
     change(&mut buffer[0..size], s.op, s.a, s.b);
-    show(output, &buffer[0..size], s.op, s.b);
-    size
+    show(output, &buffer[0..size], s.op, s.b)?;
+    Ok(size)
 }

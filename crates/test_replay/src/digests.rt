@@ -3,6 +3,7 @@
 use ring::Entry;
 use roster::Roster;
 use rules::Reply;
+use std::io;
 use test_byvalue::Tried;
 
 // What a digest of no bytes is.
@@ -74,33 +75,33 @@ fn over_roster(start: u64, r: Roster) -> u64 {
 }
 
 // Prints a space and a digest.
-fn digest(output: &impl Print, h: u64) {
-    let _ = print!(output; " {h:016x}");
+fn digest(output: &impl Print, h: u64) -> io::Result<()> {
+    inputs::heard(print!(output; " {h:016x}"))
 }
 
 // Prints a space and a number.
-fn next(output: &impl Print, n: u64) {
-    let _ = print!(output; " {n}");
+fn next(output: &impl Print, n: u64) -> io::Result<()> {
+    inputs::heard(print!(output; " {n}"))
 }
 
 // Prints a space before each of: refusal (0 if accepted), server, mark, reads.
-fn told(output: &impl Print, reply: Reply) {
+fn told(output: &impl Print, reply: Reply) -> io::Result<()> {
     let n = answers::numbers(reply);
-    next(output, n.refusal as u64);
-    next(output, n.server as u64);
-    next(output, n.mark as u64);
-    next(output, n.reads as u64);
+    next(output, n.refusal as u64)?;
+    next(output, n.server as u64)?;
+    next(output, n.mark as u64)?;
+    next(output, n.reads as u64)
 }
 
 // Prints the digests of ring and roster; a ring of 63 entries has none.
-fn rest(output: &impl Print, what: u32, ring: [Entry; 64], roster: Roster) {
+fn rest(output: &impl Print, what: u32, ring: [Entry; 64], roster: Roster) -> io::Result<()> {
     if what == 1 {
-        let _ = output.write_all(b" -");
+        inputs::heard(output.write_all(b" -"))?;
     } else {
-        digest(output, over_ring(NOTHING, ring));
+        digest(output, over_ring(NOTHING, ring))?;
     }
-    digest(output, over_roster(NOTHING, roster));
-    let _ = output.write_all(b"\n");
+    digest(output, over_roster(NOTHING, roster))?;
+    inputs::heard(output.write_all(b"\n"))
 }
 
 // Prints what an event left.
@@ -111,15 +112,15 @@ pub(crate) fn line(
     table: &[u8],
     rows: &[u32],
     flags: &[u8],
-) {
+) -> io::Result<()> {
     let outcome = tried.outcome;
     let ring = tried.ring;
     let reply = outcome.reply;
     let roster = outcome.roster;
-    told(output, reply);
-    next(output, table::used(table) as u64);
-    digest(output, over_bytes(NOTHING, table));
-    digest(output, over_numbers(NOTHING, rows));
-    digest(output, over_bytes(NOTHING, flags));
-    rest(output, what, ring, roster);
+    told(output, reply)?;
+    next(output, table::used(table) as u64)?;
+    digest(output, over_bytes(NOTHING, table))?;
+    digest(output, over_numbers(NOTHING, rows))?;
+    digest(output, over_bytes(NOTHING, flags))?;
+    rest(output, what, ring, roster)
 }

@@ -5,6 +5,7 @@ use crate::given::Given;
 use crate::{digests, given};
 use ring::Entry;
 use roster::Roster;
+use std::io;
 use test_byvalue::Tried;
 
 // 9 in every row.
@@ -80,10 +81,10 @@ fn met(
     flags: &mut [u8],
     ring: [Entry; 64],
     roster: Roster,
-) -> Tried {
+) -> io::Result<Tried> {
     let tried = done(what, record, table, rows, flags, ring, roster);
-    digests::line(output, what, tried, table, rows, flags);
-    tried
+    digests::line(output, what, tried, table, rows, flags)?;
+    Ok(tried)
 }
 
 // A line's end: what is lent is cut to its lengths and met. What is given next.
@@ -93,7 +94,7 @@ pub(crate) fn act(
     rows: &mut [u32],
     flags: &mut [u8],
     g: Given,
-) -> Given {
+) -> io::Result<Given> {
     let numbers = g.numbers;
     let event = g.event;
     let ring = g.ring;
@@ -111,6 +112,6 @@ pub(crate) fn act(
         &mut flags[..c],
         ring,
         roster,
-    );
-    given::after(g, tried)
+    )?;
+    Ok(given::after(g, tried))
 }

@@ -1,4 +1,5 @@
 // Lines as text: a name, then steps, each with a comma behind it. A step is a word, an index and numbers for that index and those behind it.
+use std::io;
 
 // What was read of a line: 0 for the name, 1 for a word, 2 for an index, 3 for a number; the word's first letter, the index, the number.
 #[derive(Clone, Copy)]
@@ -20,14 +21,15 @@ pub(crate) fn line() -> Step {
 }
 
 // A character of a name is printed; an equals sign is not.
-pub(crate) fn name(output: &impl Print, s: Step, c: u8) {
+pub(crate) fn name(output: &impl Print, s: Step, c: u8) -> io::Result<()> {
     let one = [c];
     if s.part != 0 {
-        return;
+        return Ok(());
     }
     if c != b'=' {
-        let _ = output.write_all(&one);
+        inputs::heard(output.write_all(&one))?;
     }
+    Ok(())
 }
 
 // What there is to be done: 0 nothing, else a colon, a line's end, or the first letter of the word whose number has ended.
