@@ -87,7 +87,7 @@ fn main(rt: HostRuntime) -> ExitCode {
         let said = rt.stderr().write_all(
             b"usage: bench METHOD SERVERS HORIZON RECORDS PACKETS CHANGES (METHOD 1 to 3, SERVERS up to 64, HORIZON below SERVERS, RECORDS up to 3276)\n",
         );
-        return status(work::outcome(said).is_err());
+        return status(inputs::heard(said).is_err());
     }
     let mut record = [0u8; 16];
     let mut table = [0u8; 65520];

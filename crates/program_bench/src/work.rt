@@ -2,7 +2,7 @@
 use crate::keys;
 use answers::ReplyNumbers;
 use rules::Reply;
-use std::io::{self, ErrorKind};
+use std::io;
 
 // What the program's words ask for.
 #[derive(Clone, Copy)]
@@ -244,24 +244,15 @@ fn ended(w: Work, more: More) -> Work {
     v
 }
 
-// What a write comes to: an error where nobody reads any more. Text that is not taken for another reason, as by a full disk,
-// is lost, and the program goes on.
-pub(crate) fn outcome(written: io::Result<()>) -> io::Result<()> {
-    match written {
-        Err(e) if e.kind() == ErrorKind::BrokenPipe => Err(e),
-        _ => Ok(()),
-    }
-}
-
 // Prints a line: a part's name, the checksum so far, used records, keys sent, refusals.
 fn line(output: &impl Print, part: &[u8], w: Work) -> io::Result<()> {
-    outcome(output.write_all(part))?;
-    outcome(output.print(w.tally.sum))?;
-    outcome(output.write_all(b" "))?;
-    outcome(output.print(w.tally.used))?;
-    outcome(output.write_all(b" "))?;
-    outcome(output.print(w.keys))?;
-    outcome(output.write_all(b" "))?;
-    outcome(output.print(w.tally.refused))?;
-    outcome(output.write_all(b"\n"))
+    inputs::heard(output.write_all(part))?;
+    inputs::heard(output.print(w.tally.sum))?;
+    inputs::heard(output.write_all(b" "))?;
+    inputs::heard(output.print(w.tally.used))?;
+    inputs::heard(output.write_all(b" "))?;
+    inputs::heard(output.print(w.keys))?;
+    inputs::heard(output.write_all(b" "))?;
+    inputs::heard(output.print(w.tally.refused))?;
+    inputs::heard(output.write_all(b"\n"))
 }

@@ -3,7 +3,6 @@ use crate::{Progress, Written};
 use pcap::Tally;
 use pieces::Ending;
 use std::io;
-use std::io::ErrorKind;
 
 // The first four bytes of pcapng, and of captures with nanoseconds in either byte order.
 const PCAPNG: u32 = 168627466;
@@ -42,22 +41,13 @@ fn sums(line: &impl Print, tally: Tally) -> io::Result<()> {
 
 // A number and what follows it.
 fn count(line: &impl Print, n: u64, behind: &[u8]) -> io::Result<()> {
-    heard(line.print(n))?;
+    inputs::heard(line.print(n))?;
     text(line, behind)
 }
 
 // Some words.
 fn text(line: &impl Print, bytes: &[u8]) -> io::Result<()> {
-    heard(line.write_all(bytes))
-}
-
-// What a write came to: its error only where nobody reads any more. Text that is not taken for another reason, as by a full
-// disk, is lost.
-fn heard(written: io::Result<()>) -> io::Result<()> {
-    match written {
-        Err(e) if e.kind() == ErrorKind::BrokenPipe => Err(e),
-        _ => Ok(()),
-    }
+    inputs::heard(line.write_all(bytes))
 }
 
 // The refusal's number, the byte where it stands, and what it means.
