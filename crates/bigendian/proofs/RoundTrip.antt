@@ -2,15 +2,13 @@
 use Prim.Native.Nat.{ℕ, ◌/◌, ◌%◌, ◌<◌, ◌^◌}
 use mathlib.Core.List.{[], ◌∷◌}
 use mathlib.Core.Path.{◌≡◌}
-use native.Mathlib.Nat.{mod-eq_of_lt}
 use native.Mathlib.Omega.{arith}
+use Rattle.std.proofs.lemmas.Nat.{from_be_bytes-to_be_bytes_4}
 use Rattle.bigendian.specs.BigEndian.{bytes4, number4, number4_at, number2}
 
 -- a number that fits four bytes is what its four bytes spell
 pub number4-bytes4 : (n : ℕ) → n < 2 ^ 32 → number4_at (bytes4 n) 0 ≡ n
-number4-bytes4 n fits =
-    let top : n / 2 ^ 24 < 256 = omega arith in
-    rw (mod-eq_of_lt top) (omega arith)
+number4-bytes4 n fits = from_be_bytes-to_be_bytes_4 n fits
 
 -- four bytes are those of the number that they spell
 pub bytes4-number4 : (a b c d : ℕ) → a < 256 → b < 256 → c < 256 → d < 256 → bytes4 (number4 a b c d) ≡ a ∷ b ∷ c ∷ d ∷ []

@@ -1,3 +1,4 @@
 pub mod LowBits
+pub mod Folds
 pub mod Bounds
 pub mod Unique

@@ -5,11 +5,13 @@
 ghost use Rattle.std.specs.Prelude.{◌≡◌};
 ghost use Rattle.hash.specs.Hash.{stir, F, digest as digest-of, weight as weight-of, position as position-of, distance as distance-of};
 
+// Stays (4): document 01 names the form, "FNV and weight products are formed in u64 and reduced by remainder"; so too in `weight`.
 // One byte into the running hash: xored in, then multiplied modulo 2^32.
+#[tactic(auto, unfolding(crate::specs::Hash::stir))]
 fn step(h: u32, byte: u8) -> u32
     ensures { result ≡ stir h byte }
 {
-    let mixed: u64 = (h as u64) ^ (byte as u64);
+    let mixed = u64::from(h) ^ u64::from(byte);
     (mixed * 16777619 % 4294967296) as u32
 }
 
@@ -17,13 +19,7 @@ fn step(h: u32, byte: u8) -> u32
 pub fn fnv(bytes: &[u8]) -> u32
     ensures { result ≡ F bytes.now }
 {
-    let mut h: u32 = 2166136261;
-    let mut i = 0;
-    while i < bytes.len() {
-        h = step(h, bytes[i]);
-        i += 1;
-    }
-    h
+    bytes.iter().fold(2166136261, |h, &byte| step(h, byte))
 }
 
 // The digest of a key, by which HRW weighs servers, from the key's F.
@@ -35,11 +31,12 @@ pub fn digest(f: u32) -> u32
 
 // The weight of a server at a digest. Only the low 31 bits of any step matter, so the second
 // product is formed of 31 bits and fits.
+#[tactic(auto, using(crate::proofs::LowBits::step_low), unfolding(crate::specs::Hash::weight))]
 pub fn weight(server: u32, digest: u32) -> u32
     ensures { result ≡ weight-of server digest }
 {
-    let first: u64 = 1103515245 * (server as u64) + 12345;
-    let mixed: u64 = first ^ (digest as u64);
+    let first = 1103515245 * u64::from(server) + 12345;
+    let mixed = first ^ u64::from(digest);
     ((1103515245 * (mixed % 2147483648) + 12345) % 2147483648) as u32
 }
 
@@ -47,13 +44,13 @@ pub fn weight(server: u32, digest: u32) -> u32
 pub fn position(server: u32) -> u32
     ensures { result ≡ position-of server }
 {
-    let bytes = bigendian::split4(server);
-    fnv(&bytes)
+    fnv(&bigendian::split4(server))
 }
 
 // How far clockwise it is from a point to a position.
+#[tactic(auto, unfolding(crate::specs::Hash::distance))]
 pub fn distance(position: u32, point: u32) -> u32
     ensures { result ≡ distance-of position point }
 {
-    std::num::wrapping_sub_u32(position, point)
+    position.wrapping_sub(point)
 }

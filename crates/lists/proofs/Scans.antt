@@ -1,116 +1,91 @@
--- The scans of the roster's lists at an index: what is left from there on decides the whole, and the ways on.
-use Prim.Native.Nat.{ℕ, suc, ◌+◌, ◌<◌, ◌≤◌}
+-- The scans of the roster's lists: what a library's search or fold of a list finds is what the definitions give.
+use Prim.Native.Nat.{ℕ, zero, suc, ◌<◌, ◌≤◌}
 use mathlib.Core.Bool.{Bool, true, false, cond}
-use mathlib.Core.List.{List, [], ◌∷◌}
-use mathlib.Core.Path.{◌≡◌, refl, sym, ◌∙◌}
+use mathlib.Core.List.{List, [], ◌∷◌, ◌++◌}
+use mathlib.Core.Path.{◌≡◌, refl, sym}
 use native.Mathlib.Numerals.{add-one}
 use native.Mathlib.Omega.{arith}
 use lib.Dec.{eqb, ltb}
-use lib.ListN.{length, get_or, drop, drop_of_length-le}
-use lib.Seq.{drop-cons}
-use borrow.Author.Tests.{eq-eqb, ne_eqb, lt-ltb, le-ltb}
-use Rattle.sets.proofs.Cases.{both}
-use Rattle.sets.specs.Sets.{in_state}
-use Rattle.lists.specs.Lists.{rising, all_stated, place_in, before}
+use lib.ListN.{length}
+use borrow.Author.Tests.{eq-eqb, ne_eqb, lt-ltb, le-ltb, ltb-true, ltb-false}
+use Rattle.std.specs.Prelude.{Option, None, Some}
+use Rattle.std.specs.Option.{MatchOption, unwrap_or}
+use Rattle.std.specs.List.{AllWithin, HoldsAt, IsAllAdjacentAnswer, starts_with}
+use Rattle.std.proofs.lemmas.Iterator.{index_from_first}
+use Rattle.sets.proofs.Cases.{both, clash}
+use Rattle.lists.specs.Lists.{rising, all_stated, place_in, found_in, before}
 
-module _ (s : List ℕ) (last i : ℕ) (W : Bool) (so : rising last (drop i s) ≡ W) where
-  rising_step : i < length s → rising last (drop i s) ≡ cond (ltb last (get_or s i 0)) (rising (get_or s i 0) (drop (i + 1) s)) false
-  unfolding rising
-  rising_step h = rw (add-one, drop-cons s i 0 h)
+-- what a search for the first place where Yes holds finds
+abbrev First : (Yes No : ℕ → Type 0) → List ℕ → Option ℕ → Type 0
+First Yes No l r = MatchOption r (AllWithin No l 0 (length l)) (λ i. (i < length l) × HoldsAt Yes l i × AllWithin No l 0 i)
 
-  pub rising_stop : i < length s → get_or s i 0 ≤ last → false ≡ W
-  rising_stop h e = sym (rw (le-ltb _ _ e) at (rising_step h)) ∙ so
+pub before-first : (x : ℕ) (l : List ℕ) (r : Option ℕ) → First (λ y. x ≤ y) (λ y. y < x) l r → before x l ≡ unwrap_or r (length l)
+unfolding before
+before-first x l r h =
+    index_from_first (before x) (λ y. x ≤ y) (λ y. y < x) refl
+    (λ y ys e. rw (le-ltb y x e)) (λ y ys e. rw (lt-ltb y x e, add-one)) l r h
 
-  pub rising_more : i < length s → last < get_or s i 0 → rising (get_or s i 0) (drop (i + 1) s) ≡ W
-  rising_more h e = sym (rw (lt-ltb _ _ e) at (rising_step h)) ∙ so
-
-  pub rising-end : length s ≤ i → true ≡ W
-  unfolding rising
-  rising-end h = rw (drop_of_length-le s {i = i} h) at so
-
-module _ (s : List ℕ) (good : Bool) (i : ℕ) (W : Bool) (so : cond good (all_stated (drop i s)) false ≡ W) where
-  stated_step : i < length s → all_stated (drop i s)
-      ≡ cond (eqb (get_or s i 0) 1) (all_stated (drop (i + 1) s)) (cond (eqb (get_or s i 0) 2) (all_stated (drop (i + 1) s)) false)
-  unfolding all_stated
-  stated_step h = rw (add-one, drop-cons s i 0 h)
-
-  pub stated_not : i < length s → (get_or s i 0 ≡ 1 → ⊥) → (get_or s i 0 ≡ 2 → ⊥) → false ≡ W
-  stated_not h m n = never good ∙ (rw (stated_step h, ne_eqb _ _ m, ne_eqb _ _ n) at so)
-    where
-      never : (b : Bool) → false ≡ cond b false false
-      never true = refl
-      never false = refl
-
-  pub stated_working : i < length s → get_or s i 0 ≡ 1 → cond good (all_stated (drop (i + 1) s)) false ≡ W
-  stated_working h e = rw (stated_step h, e) at so
-
-  pub stated_standby : i < length s → get_or s i 0 ≡ 2 → cond good (all_stated (drop (i + 1) s)) false ≡ W
-  stated_standby h e = rw (stated_step h, e) at so
-
-  pub stated_end : length s ≤ i → good ≡ W
-  unfolding all_stated
-  stated_end h = plain good ∙ (rw (drop_of_length-le s {i = i} h) at so)
-    where
-      plain : (b : Bool) → b ≡ cond b true false
-      plain true = refl
-      plain false = refl
-
-module _ (x : ℕ) (s : List ℕ) (i : ℕ) where
-  place_step : i < length s → place_in x (drop i s) ≡ cond (eqb (get_or s i 0) x) 0 (suc (place_in x (drop (i + 1) s)))
-  unfolding place_in
-  place_step h = rw (add-one, drop-cons s i 0 h)
-
-  pub place_stop : i < length s → get_or s i 0 ≡ x → place_in x (drop i s) ≡ 0
-  place_stop h e = rw (eq-eqb _ _ e) at (place_step h)
-
-  pub place_more : i < length s → (get_or s i 0 ≡ x → ⊥) → place_in x (drop i s) ≡ suc (place_in x (drop (i + 1) s))
-  place_more h n = rw (ne_eqb _ _ n) at (place_step h)
-
-  pub place_end : length s ≤ i → place_in x (drop i s) ≡ 0
-  unfolding place_in
-  place_end h = rw (drop_of_length-le s {i = i} h)
-
-  before_step : i < length s → before x (drop i s) ≡ cond (ltb (get_or s i 0) x) (suc (before x (drop (i + 1) s))) 0
-  unfolding before
-  before_step h = rw (add-one, drop-cons s i 0 h)
-
-  pub before_stop : i < length s → x ≤ get_or s i 0 → before x (drop i s) ≡ 0
-  before_stop h e = rw (le-ltb _ _ e) at (before_step h)
-
-  pub before_more : i < length s → get_or s i 0 < x → before x (drop i s) ≡ suc (before x (drop (i + 1) s))
-  before_more h e = rw (lt-ltb _ _ e) at (before_step h)
-
-  pub before-end : length s ≤ i → before x (drop i s) ≡ 0
-  unfolding before
-  before-end h = rw (drop_of_length-le s {i = i} h)
-
--- neither place is behind the list's end
-pub place_le : (x : ℕ) (l : List ℕ) → place_in x l ≤ length l
+place-first_lem : (x : ℕ) (l : List ℕ) (r : Option ℕ) → First (λ y. y ≡ x) (λ y. y ≡ x → ⊥) l r → place_in x l ≡ unwrap_or r (length l)
 unfolding place_in
-place_le x [] = omega arith
-place_le x (y ∷ ys) = both (eqb y x) (λ t. rw t (omega arith)) (λ t. rw t (omega (arith, place_le x ys)))
+place-first_lem x l r h =
+    index_from_first (place_in x) (λ y. y ≡ x) (λ y. y ≡ x → ⊥) refl
+    (λ y ys e. rw (eq-eqb y x e)) (λ y ys n. rw (ne_eqb y x n, add-one)) l r h
 
+pub place-first : (x : ℕ) (l : List ℕ) (r : Option ℕ) → First (λ y. y ≡ x) (λ y. y ≡ x → ⊥) l r → r ≡ found_in x l
+place-first x l None h = let e : place_in x l ≡ length l = place-first_lem x l None h in rw (le-ltb (place_in x l) (length l) (omega arith))
+place-first x l (Some i) h =
+    let e : place_in x l ≡ i = place-first_lem x l (Some i) h in
+    rw (lt-ltb (place_in x l) (length l) (omega (arith, h.0)), e)
+
+-- what it means of a server's place
+pub found_some : (x p : ℕ) (l : List ℕ) → Some p ≡ found_in x l → (place_in x l ≡ p) × (p < length l)
+found_some x p l e =
+    both (ltb (place_in x l) (length l))
+    (λ t.
+    let q : Some p ≡ Some (place_in x l) = rw t at e in
+    let r : place_in x l ≡ p = cc in
+    (r, omega (arith, r, ltb-true (place_in x l) (length l) t)))
+    (λ t. let q : Some p ≡ None = rw t at e in cc)
+
+pub found_none : (x : ℕ) (l : List ℕ) → None ≡ found_in x l → length l ≤ place_in x l
+found_none x l e =
+    both (ltb (place_in x l) (length l))
+    (λ t. let q : None ≡ Some (place_in x l) = rw t at e in cc)
+    (λ t. ltb-false (place_in x l) (length l) t)
+
+-- what a library's test of each server and the next finds
+climbs : (last x : ℕ) (l : List ℕ) (r : Bool) → last < x → IsAllAdjacentAnswer (λ x y b. b ≡ ltb x y) (x ∷ l) r → r ≡ rising last (x ∷ l)
+unfolding rising
+climbs last x [] true h a = rw (lt-ltb last x h)
+climbs last x [] false h (k, q, e) = absurd (omega arith)
+climbs last x (y ∷ l) true h a =
+    let up : ltb x y ≡ true = sym (a 0 0 (omega arith)) in
+    rw (lt-ltb last x h) (climbs x y l true (ltb-true x y up) (λ k d q. rw add-one (rw add-one at (a (suc k) d (omega arith)))))
+climbs last x (y ∷ l) false h (zero, q, e) = let down : ltb x y ≡ false = sym (e 0) in rw (lt-ltb last x h, down)
+climbs last x (y ∷ l) false h (suc k, q, e) =
+    rw (lt-ltb last x h) (both (ltb x y) (λ t. climbs x y l false (ltb-true x y t) (k, omega arith, λ d. rw add-one (rw add-one at (e d)))) (λ f. rw f))
+
+pub rises : (l : List ℕ) (r : Bool) → false ≡ starts_with eqb l (0 ∷ []) → IsAllAdjacentAnswer (λ x y b. b ≡ ltb x y) l r → r ≡ rising 0 l
+unfolding rising
+rises [] true z a = refl
+rises [] false z (k, q, e) = absurd (omega arith)
+rises (zero ∷ l) r z a = clash refl (sym z)
+rises (suc x ∷ l) r z a = climbs 0 (suc x) l r (omega arith) a
+
+pub rises_not : (l : List ℕ) → true ≡ starts_with eqb l (0 ∷ []) → rising 0 l ≡ false
+unfolding rising
+rises_not [] z = clash (sym z) refl
+rises_not (zero ∷ l) z = refl
+rises_not (suc x ∷ l) z = let n : eqb 0 (suc x) ≡ false = ne_eqb 0 (suc x) (λ q. absurd (omega arith)) in clash refl (rw n at z)
+
+-- one state more
+pub all_stated_more : (l : List ℕ) (x : ℕ) → all_stated (l ++ x ∷ []) ≡ cond (all_stated l) (all_stated (x ∷ [])) false
+unfolding all_stated
+all_stated_more [] x = refl
+all_stated_more (y ∷ l) x = both (eqb y 1) (λ t. rw t (all_stated_more l x)) (λ t. both (eqb y 2) (λ u. rw (t, u) (all_stated_more l x)) (λ u. rw (t, u)))
+
+-- no server's place is behind the list's end
 pub before-le : (x : ℕ) (l : List ℕ) → before x l ≤ length l
 unfolding before
 before-le x [] = omega arith
 before-le x (y ∷ ys) = both (ltb y x) (λ t. rw t (omega (arith, before-le x ys))) (λ t. rw t (omega arith))
-
--- the servers of a state, from place i on
-module _ (k : ℕ) (ss xs : List ℕ) (i : ℕ) where
-  pub in_state_step : i < length ss → i < length xs
-      → in_state k (drop i ss) (drop i xs)
-      ≡ cond (eqb (get_or xs i 0) k) (get_or ss i 0 ∷ in_state k (drop (i + 1) ss) (drop (i + 1) xs)) (in_state k (drop (i + 1) ss) (drop (i + 1) xs))
-  unfolding in_state
-  in_state_step h g = rw (add-one, drop-cons ss i 0 h, drop-cons xs i 0 g)
-
-  pub in_state-has : i < length ss → i < length xs → get_or xs i 0 ≡ k
-      → in_state k (drop i ss) (drop i xs) ≡ get_or ss i 0 ∷ in_state k (drop (i + 1) ss) (drop (i + 1) xs)
-  in_state-has h g e = rw (eq-eqb _ _ e) at (in_state_step h g)
-
-  pub in_state_skip : i < length ss → i < length xs → (get_or xs i 0 ≡ k → ⊥)
-      → in_state k (drop i ss) (drop i xs) ≡ in_state k (drop (i + 1) ss) (drop (i + 1) xs)
-  in_state_skip h g n = rw (ne_eqb _ _ n) at (in_state_step h g)
-
-  pub in_state-end_lem : length ss ≤ i → in_state k (drop i ss) (drop i xs) ≡ []
-  unfolding in_state
-  in_state-end_lem h = rw (drop_of_length-le ss {i = i} h)

@@ -1,5 +1,5 @@
 -- Document 01, "The movers at the door": plain lists of servers and of their states, as the roster holds them.
-use Rattle.std.specs.Prelude.{ℕ, suc, ◌+◌, Bool, true, false, cond, List, [], ◌∷◌, ◌++◌, eqb, ltb, take, drop}
+use Rattle.std.specs.Prelude.{ℕ, suc, ◌+◌, Bool, true, false, cond, List, [], ◌∷◌, ◌++◌, eqb, ltb, length, take, drop, Option, None, Some}
 -- the two states of a held server, passed on
 pub use Rattle.sets.specs.Sets.{working, standby}
 
@@ -26,6 +26,10 @@ put_in p n x l = take p l ++ (x ∷ (drop p (take n l) ++ drop (n + 1) l))
 unfoldable pub place_in : ℕ → List ℕ → ℕ
 place_in s [] = 0
 place_in s (y ∷ ys) = cond (eqb y s) 0 (suc (place_in s ys))
+
+-- that place, where the server is there
+abbrev pub found_in : ℕ → List ℕ → Option ℕ
+found_in s l = cond (ltb (place_in s l) (length l)) (Some (place_in s l)) None
 
 -- the place p, counted from 0, taken out of the n places in use: those after it move down by one, the freed place is zero, the places behind stay
 unfoldable pub taken_out : ℕ → ℕ → List ℕ → List ℕ

@@ -1,23 +1,19 @@
 -- A sound roster by its parts, and its lists' lengths; a fresh roster, and one with other valid settings, are sound.
-use Prim.Native.Nat.{ℕ, ◌+◌, ◌<◌, ◌≤◌}
+use Prim.Native.Nat.{ℕ, ◌≤◌}
 use mathlib.Core.Bool.{Bool, true, false, cond}
-use mathlib.Core.List.{[], ◌∷◌}
-use mathlib.Core.Logic.{◌≢◌}
 use mathlib.Core.Path.{◌≡◌, refl, sym, ◌∙◌}
 use native.Mathlib.Omega.{arith}
-use lib.Dec.{eqb, leb}
-use lib.ListN.{length, get_or, drop}
-use lib.Seq.{length-take-le, get_or-take}
-use borrow.Author.Tests.{leb-true, le-leb, eq-eqb, ne_eqb}
+use lib.Dec.{leb}
+use lib.ListN.{length, drop}
+use lib.Seq.{length-take-le}
+use borrow.Author.Tests.{leb-true, le-leb}
 use Rattle.sets.proofs.Cases.{both, clash}
 use Rattle.spans.specs.Spans.{all_zero}
 use Rattle.settings.specs.declared.Settings.{Settings}
 use Rattle.settings.specs.Settings.{valid}
 use Rattle.roster.specs.declared.Roster.{Roster}
-use Rattle.sets.specs.Sets.{in_state}
 use Rattle.lists.specs.Lists.{rising, all_stated}
 use Rattle.roster.specs.Roster.{sound, held_servers, held_states, state_in, state_of, empty_roster}
-use Rattle.lists.proofs.Scans.{in_state_step, in_state-end_lem}
 
 -- 64 places, as every roster in code has
 pub record Sized (r : Roster) : Type 0 where
@@ -91,30 +87,6 @@ module _ (r : Roster) (z : Sized r) (few : r.held ≤ 64) where
 
   pub held_same : length (held_servers r) ≡ length (held_states r)
   held_same = held_servers_lem ∙ sym held_states_lem
-
-  -- the servers of a state, read place by place off the roster's lists
-  module _ (k i : ℕ) where
-    pub held_step : i < r.held
-        → in_state k (drop i (held_servers r)) (drop i (held_states r))
-        ≡ cond
-        (eqb (get_or r.states i 0) k)
-        (get_or r.servers i 0 ∷ in_state k (drop (i + 1) (held_servers r)) (drop (i + 1) (held_states r)))
-        (in_state k (drop (i + 1) (held_servers r)) (drop (i + 1) (held_states r)))
-    held_step h =
-        rw (← get_or-take r.held r.states i 0 h, ← get_or-take r.held r.servers i 0 h)
-        (in_state_step k (held_servers r) (held_states r) i (omega (arith, held_servers_lem)) (omega (arith, held_states_lem)))
-
-    pub held_has : i < r.held → get_or r.states i 0 ≡ k
-        → in_state k (drop i (held_servers r)) (drop i (held_states r))
-        ≡ get_or r.servers i 0 ∷ in_state k (drop (i + 1) (held_servers r)) (drop (i + 1) (held_states r))
-    held_has h e = rw (eq-eqb (get_or r.states i 0) k e) at (held_step h)
-
-    pub held_skip : i < r.held → get_or r.states i 0 ≢ k
-        → in_state k (drop i (held_servers r)) (drop i (held_states r)) ≡ in_state k (drop (i + 1) (held_servers r)) (drop (i + 1) (held_states r))
-    held_skip h n = rw (ne_eqb (get_or r.states i 0) k n) at (held_step h)
-
-    pub held_end : r.held ≤ i → in_state k (drop i (held_servers r)) (drop i (held_states r)) ≡ []
-    held_end h = in_state-end_lem k (held_servers r) (held_states r) i (omega (arith, held_servers_lem))
 
 -- a fresh start
 pub empty_sized : Sized empty_roster

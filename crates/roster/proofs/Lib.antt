@@ -1,4 +1,5 @@
 pub mod Places
+pub mod Chains
 pub mod States
 pub mod InState
 pub mod Held

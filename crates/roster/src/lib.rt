@@ -11,6 +11,8 @@ use settings::Settings;
 pub mod parts;
 
 // At most 64 servers in rising order, each working (1) or in the horizon (2); unused places zero.
+// Stays (1): any byte may be lent as a state or a method; refusal 11 (`sound`) is for the wrong ones, which enums couldn't hold.
+// Stays (6): `balancer::event` takes this type, `in_state` is of two lists, and refusal 11 also reads the places behind those held.
 #[derive(Clone, Copy)]
 pub struct Roster {
     pub servers: [u32; MOST_SERVERS],
@@ -35,38 +37,16 @@ pub fn empty() -> Roster
 pub fn sound(r: Roster) -> bool
     ensures { result ≡ sound_of r }
 {
-    let held = r.held;
-    if held > MOST_SERVERS {
-        return false;
-    }
-    let servers: &[u32] = &r.servers;
-    if !lists::rising(&servers[..held]) {
-        return false;
-    }
-    if !lists::zeros(&servers[held..]) {
-        return false;
-    }
-    let states: &[u8] = &r.states;
-    if !lists::stated(&states[..held]) {
-        return false;
-    }
-    if !spans::all_zero(&states[held..]) {
-        return false;
-    }
-    settings::valid(r.settings)
+    parts::sound(&r.servers, &r.states, r.held, r.settings)
 }
 
 // The state of a server: 1 working, 2 in the horizon, 0 unknown.
+// Stays (1): of an unsound roster it gives whatever byte stands there (`state_of`), which no Option of a state holds.
 pub fn state_of(r: Roster, server: u32) -> u8
     ensures { result ≡ state_of server r }
 {
     let n = in_use(r.held);
-    let servers: &[u32] = &r.servers;
-    let p = lists::place(&servers[..n], server);
-    if p < n {
-        return r.states[p];
-    }
-    0
+    parts::state_in(&r.servers[..n], &r.states[..n], server)
 }
 
 // A server of the horizon brought into work.
@@ -88,23 +68,17 @@ pub fn remove_working(r: Roster, server: u32) -> Roster
 pub fn add_horizon(r: Roster, server: u32) -> Roster
     ensures { result ≡ added_horizon server r }
 {
-    let held = r.held;
-    if held >= MOST_SERVERS {
+    if r.held >= MOST_SERVERS {
         return r;
     }
-    let mut servers = r.servers;
-    let mut states = r.states;
-    let p = lists::before(&servers[..held], server);
-    let end = held + 1;
-    lists::push_server(&mut servers[p..end], server);
-    lists::push_state(&mut states[p..end], STANDBY);
-    let settings = r.settings;
-    Roster {
-        servers: servers,
-        states: states,
-        held: end,
-        settings: settings,
-    }
+    let p = lists::before(&r.servers[..r.held], server);
+    let mut next = Roster {
+        held: r.held + 1,
+        ..r
+    };
+    lists::push(&mut next.servers[p..=r.held], server);
+    lists::push(&mut next.states[p..=r.held], STANDBY);
+    next
 }
 
 // A server of the horizon taken off the roster; the freed place is zero.
@@ -112,43 +86,31 @@ pub fn remove_horizon(r: Roster, server: u32) -> Roster
     ensures { result ≡ removed_horizon server r }
 {
     let n = in_use(r.held);
-    let mut servers = r.servers;
-    let mut states = r.states;
-    let p = lists::place(&servers[..n], server);
-    if p >= n {
+    let Some(p) = lists::place(&r.servers[..n], server) else {
         return r;
-    }
-    lists::pull_server(&mut servers[p..n]);
-    spans::close(&mut states[p..n], 1);
-    let settings = r.settings;
-    Roster {
-        servers: servers,
-        states: states,
+    };
+    let mut next = Roster {
         held: r.held - 1,
-        settings: settings,
-    }
+        ..r
+    };
+    spans::close_with(&mut next.servers[p..n], 1, 0);
+    spans::close(&mut next.states[p..n], 1);
+    next
 }
 
 // The number of places in use: those held, of a roster that claims more than 64 all.
 pub fn in_use(held: usize) -> usize
     ensures { result ≡ min held most_servers }
 {
-    if held < MOST_SERVERS {
-        return held;
-    }
-    MOST_SERVERS
+    held.min(MOST_SERVERS)
 }
 
 // The roster with a held server's state set.
-fn with_state(r: Roster, server: u32, state: u8) -> Roster
+fn with_state(mut r: Roster, server: u32, state: u8) -> Roster
     ensures { result ≡ with_state server state r }
 {
-    let n = in_use(r.held);
-    let servers: &[u32] = &r.servers;
-    let p = lists::place(&servers[..n], server);
-    let mut next = r;
-    if p < n {
-        next.states[p] = state;
+    if let Some(p) = lists::place(&r.servers[..in_use(r.held)], server) {
+        r.states[p] = state;
     }
-    next
+    r
 }

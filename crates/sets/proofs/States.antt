@@ -1,13 +1,12 @@
 -- The servers in a state, at an index: what a loop over the two lists meets there.
 use Prim.Native.Nat.{ℕ, ◌+◌, ◌<◌, ◌≤◌}
-use mathlib.Core.Bool.{Bool, true, false}
 use mathlib.Core.List.{List, [], ◌∷◌}
-use mathlib.Core.Path.{◌≡◌, refl, sym}
+use mathlib.Core.Path.{◌≡◌, refl}
 use native.Mathlib.Numerals.{add-one}
 use lib.ListN.{length, get_or, drop, drop_of_length-le}
 use lib.Seq.{drop-cons}
 use borrow.Author.Tests.{eq-eqb, ne_eqb}
-use Rattle.sets.specs.Sets.{member, in_state}
+use Rattle.sets.specs.Sets.{in_state}
 
 module _ (k : ℕ) (ss xs : List ℕ) (i : ℕ) where
   pub in_state_here : i < length ss → i < length xs → get_or xs i 0 ≡ k
@@ -32,22 +31,3 @@ in_state-none k (s ∷ ss) = refl
 -- where the second list ends first
 pub in_state_short_lem : (k : ℕ) (ss xs : List ℕ) (i : ℕ) → length xs ≤ i → in_state k (drop i ss) (drop i xs) ≡ []
 in_state_short_lem k ss xs i h = rw (drop_of_length-le xs {i = i} h) (in_state-none k (drop i ss))
-
--- membership among the servers in a state, as a loop decides it
-module _ (s k : ℕ) (ss xs : List ℕ) (i : ℕ) (W : Bool) (so : member s (in_state k (drop i ss) (drop i xs)) ≡ W) where
-  pub in_state_found : i < length ss → i < length xs → get_or xs i 0 ≡ k → get_or ss i 0 ≡ s → true ≡ W
-  in_state_found h g e q = rw (in_state_here k ss xs i h g e, eq-eqb s (get_or ss i 0) (sym q)) at so
-
-  pub in_state_another : i < length ss → i < length xs → get_or xs i 0 ≡ k → (get_or ss i 0 ≡ s → ⊥)
-      → member s (in_state k (drop (i + 1) ss) (drop (i + 1) xs)) ≡ W
-  in_state_another h g e n = rw (in_state_here k ss xs i h g e, ne_eqb s (get_or ss i 0) (λ q. n (sym q))) at so
-
-  pub in_state_other : i < length ss → i < length xs → (get_or xs i 0 ≡ k → ⊥)
-      → member s (in_state k (drop (i + 1) ss) (drop (i + 1) xs)) ≡ W
-  in_state_other h g n = rw (in_state_other_lem k ss xs i h g n) at so
-
-  pub in_state-end : length ss ≤ i → false ≡ W
-  in_state-end h = rw (in_state-end_lem k ss xs i h) at so
-
-  pub in_state_short : length xs ≤ i → false ≡ W
-  in_state_short h = rw (in_state_short_lem k ss xs i h) at so

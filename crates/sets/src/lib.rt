@@ -3,6 +3,7 @@
 #![tactic(auto)]
 
 // The state of a server at work.
+// Stays (1): any byte may be lent as a state; refusal 11 is for those other than these two, which an enum couldn't hold.
 pub const WORKING: u8 = 1;
 
 // The state of a server in the horizon.

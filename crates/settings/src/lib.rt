@@ -5,7 +5,8 @@
 ghost use Rattle.std.specs.Prelude.{◌≡◌};
 ghost use Rattle.settings.specs.Settings.{valid as valid-of, fresh as fresh-of, named as named-of, well_formed};
 
-// The three methods.
+// The three methods, by their numbers.
+// Stays (1): any byte may be lent as a method; refusal 11 (`valid`) is for those other than these three, which an enum couldn't hold.
 pub const HRW: u8 = 1;
 
 pub const RING: u8 = 2;
@@ -26,22 +27,15 @@ pub struct Settings {
 }
 
 // Whether settings are valid: for configure (refusal 1) and in a roster (refusal 11).
+#[tactic(auto, unfolding(crate::specs::Settings::valid))]
 pub fn valid(s: Settings) -> bool
     ensures { result ≡ valid-of s }
 {
-    if s.method == ROW_TABLE {
-        if s.rows < 1 {
-            return false;
-        }
-        return s.rows <= MOST_ROWS;
+    match s.method {
+        ROW_TABLE => 1 <= s.rows && s.rows <= MOST_ROWS,
+        HRW | RING => s.rows == 0,
+        _ => false,
     }
-    if s.rows != 0 {
-        return false;
-    }
-    if s.method == HRW {
-        return true;
-    }
-    s.method == RING
 }
 
 // The settings of a fresh start.
@@ -65,11 +59,9 @@ pub fn named(body: [u8; BODY_BYTES]) -> Settings
 }
 
 // Whether configure's bytes 3 to 15 are well formed: zero filler, valid settings.
+#[tactic(auto, unfolding(crate::specs::Settings::well_formed))]
 pub fn well_formed(body: [u8; BODY_BYTES]) -> bool
     ensures { result ≡ well_formed body }
 {
-    if !spans::all_zero(&body[3..]) {
-        return false;
-    }
-    valid(named(body))
+    spans::all_zero(&body[3..]) && valid(named(body))
 }

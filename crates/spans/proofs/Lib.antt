@@ -1,4 +1,3 @@
 pub mod Scans
-pub mod Shifts
 pub mod Zeros
 pub mod Unique

@@ -1,23 +1,13 @@
-use Rattle.std.proofs.Common.{◌<◌, length, refl, add-one, arith, drop_of_length-le, drop-cons, rules}
-use Rattle.hash.specs.Hash.{stir_all, F}
+-- `hash::fnv` meets its contract: after each byte the fold has what the definition gives for those so far.
+use Rattle.std.proofs.Common.{◌≡◌, refl, rules}
+use Rattle.std.proofs.lemmas.Fn.{fold_over, fronts, slice_gives}
+use Rattle.hash.specs.Hash.{stir, stir_all, F}
+use Rattle.hash.proofs.Folds.{stir_all_more}
 use Rattle.hash.proofs.fnv.Goals as goal
 
-pub loop-i-init : goal.loop-i-init
-unfolding F
-loop-i-init c = (search rules, refl)
-
-pub loop-i-preserved : goal.loop-i-preserved
-unfolding stir_all
-loop-i-preserved c =
-    let l = c in
-    let bytes = l.args.bytes.now in
-    let i = l.loop-i.i in
-    let here : i < length bytes = omega arith in
-    (search rules, rw (add-one, c.step-h.ensures) (rw (drop-cons bytes i 0 here) at l.loop-i.invariant.1))
-
 pub returns : goal.returns
-unfolding stir_all
+unfolding F stir_all
 returns c =
-    let l = c in
-    let bytes = l.args.bytes.now in
-    rw (drop_of_length-le bytes {i = l.loop-i.i} (omega arith)) at l.loop-i.invariant.1
+    fold_over fronts (λ y. y.now) _ (λ bytes h. h ≡ stir_all 2166136261 bytes) _
+    (λ bytes h y h' f e k. let step : h' ≡ stir h y.now = search rules in (rw (stir_all_more, ← e) step, refl))
+    _ c.args.bytes.now _ _ (rw (← c.iter.ensures.rest) (slice_gives c.iter.result)) refl c.fold.ensures.ran

@@ -1,19 +1,15 @@
-use native.Mathlib.Omega.{arith}
-use Rattle.lists.proofs.Scans.{before_stop, before_more, before-end}
-use borrow.Author.Rules.{rules}
+-- `lists::before` meets its contract.
+use Rattle.std.proofs.Common.{◌<◌, ◌≤◌, rules, sym, ◌∙◌}
+use Rattle.std.proofs.lemmas.Iterator.{IsFirst-from_position, YieldsList-from_slice}
+use borrow.Author.Tests.{tests}
+use Rattle.lists.proofs.Scans.{before-first}
 use Rattle.lists.proofs.before.Goals as goal
 
-pub returns-then-s-i : goal.returns-then-s-i
-returns-then-s-i c =
-    let p = c.args in
-    omega (arith, before_stop p.server p.s.now c.loop-i.i (omega arith) c.if-s-i.true)
-
-pub loop-i-preserved : goal.loop-i-preserved
-loop-i-preserved c =
-    let p = c.args in
-    (search rules, omega (arith, before_more p.server p.s.now c.loop-i.i (omega arith) c.if-s-i.false))
-
-pub returns : goal.returns
-returns c =
-    let p = c.args in
-    omega (arith, before-end p.server p.s.now c.loop-i.i (omega arith))
+pub returns-clause-count : goal.returns-clause-count
+returns-clause-count c =
+    let s = c.args.s.now in
+    let x = c.args.server in
+    c.unwrap_or.ensures
+    ∙ sym (before-first x s c.position.result
+    (IsFirst-from_position _ _ _ (λ y. x ≤ y) (λ y. y < x) c.position.ensures.ran (YieldsList-from_slice s c.iter.ensures.rest)
+    (λ y f k. search (rules, tests)) (λ y f k. search (rules, tests))))

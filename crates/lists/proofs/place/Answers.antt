@@ -1,19 +1,14 @@
-use native.Mathlib.Omega.{arith}
-use Rattle.lists.proofs.Scans.{place_stop, place_more, place_end}
-use borrow.Author.Rules.{rules}
+-- `lists::place` meets its contract.
+use Rattle.std.proofs.Common.{◌≡◌, rules}
+use Rattle.std.proofs.lemmas.Iterator.{IsFirst-from_position, YieldsList-from_slice}
+use borrow.Author.Tests.{tests}
+use Rattle.lists.proofs.Scans.{place-first}
 use Rattle.lists.proofs.place.Goals as goal
-
-pub returns-then-s-i : goal.returns-then-s-i
-returns-then-s-i c =
-    let p = c.args in
-    omega (arith, place_stop p.server p.s.now c.loop-i.i (omega arith) c.if-s-i.true)
-
-pub loop-i-preserved : goal.loop-i-preserved
-loop-i-preserved c =
-    let p = c.args in
-    (search rules, omega (arith, place_more p.server p.s.now c.loop-i.i (omega arith) c.if-s-i.false))
 
 pub returns : goal.returns
 returns c =
-    let p = c.args in
-    omega (arith, place_end p.server p.s.now c.loop-i.i (omega arith))
+    let s = c.args.s.now in
+    let x = c.args.server in
+    place-first x s c.position.result
+    (IsFirst-from_position _ _ _ (λ y. y ≡ x) (λ y. y ≡ x → ⊥) c.position.ensures.ran (YieldsList-from_slice s c.iter.ensures.rest)
+    (λ y f k. search (rules, tests)) (λ y f k. search (rules, tests)))

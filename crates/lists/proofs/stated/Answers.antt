@@ -1,21 +1,14 @@
-use native.Mathlib.Omega.{arith}
-use Rattle.lists.proofs.Scans.{stated_not, stated_working, stated_standby, stated_end}
-use borrow.Author.Rules.{rules}
+-- `lists::stated` meets its contract: after each state the fold has what the definition gives for those so far.
+use Rattle.std.proofs.Common.{◌≡◌, ◌∷◌, [], arith, cond, false, refl}
+use Rattle.std.proofs.lemmas.Grind.{common_steps}
+use Rattle.std.proofs.lemmas.Fn.{fold_over, fronts, slice_gives}
+use Rattle.lists.specs.Lists.{all_stated}
+use Rattle.lists.proofs.Scans.{all_stated_more}
 use Rattle.lists.proofs.stated.Goals as goal
-use Rattle.lists.proofs.stated.Goals.{then-x-ne-WORKING+then-x-ne-STANDBY, then-x-ne-WORKING+else-x-ne-STANDBY, else-x-ne-WORKING}
-
-pub loop-i-preserved : goal.loop-i-preserved
-loop-i-preserved c =
-    let s = c.args.s.now in
-    let so = c.loop-i.invariant.1 in (
-      search rules,
-      elim c.if-x-ne-WORKING.branch [
-        | then-x-ne-WORKING+then-x-ne-STANDBY w ↦ rw w.good-is (stated_not s c.loop-i.good c.loop-i.i _ so (omega arith) w.if-x-ne-WORKING.true w.if-x-ne-STANDBY.true)
-        | then-x-ne-WORKING+else-x-ne-STANDBY w ↦ rw w.good-is (stated_standby s c.loop-i.good c.loop-i.i _ so (omega arith) w.if-x-ne-STANDBY.false)
-        | else-x-ne-WORKING w ↦ rw w.good-is (stated_working s c.loop-i.good c.loop-i.i _ so (omega arith) w.if-x-ne-WORKING.false)
-      ],
-    )
 
 pub returns : goal.returns
+unfolding all_stated
 returns c =
-    stated_end c.args.s.now c.loop-i.good c.loop-i.i _ c.loop-i.invariant.1 (omega arith)
+    fold_over fronts (λ y. y.now) _ (λ states good. good ≡ all_stated states) _
+    (λ states good y good' f e k. let step : good' ≡ cond good (all_stated (y.now ∷ [])) false = grind (arith, common_steps) in (rw (all_stated_more, ← e) step, refl))
+    _ c.args.s.now _ _ (rw (← c.iter.ensures.rest) (slice_gives c.iter.result)) refl c.fold.ensures.ran

@@ -1,69 +1,67 @@
--- `parts::sound` meets its contract: each refusal is one clause of the definition that fails, and past all tests the settings decide.
-use mathlib.Core.Bool.{true, false}
-use mathlib.Core.Path.{◌≡◌, sym, ◌∙◌}
-use lib.Dec.{leb}
-use lib.ListN.{length, take, drop}
-use borrow.Author.Tests.{le-leb, lt-leb}
+-- `parts::sound` meets its contract: each list is cut where the places in use end, and past the first tests a chain of tests decides.
+use Rattle.std.proofs.Common.{◌≡◌, ◌∙◌, sym, true, false, cond, leb, length, take, drop}
+use borrow.Author.Tests.{le-leb}
 use Rattle.spans.specs.Spans.{all_zero}
+use Rattle.spans.proofs.Scans.{all_are_zero}
+use Rattle.settings.specs.Settings.{valid}
 use Rattle.lists.specs.Lists.{rising, all_stated}
 use Rattle.roster.specs.Roster.{sound}
-use Rattle.roster.proofs.Places.{rest-zero, idle}
+use Rattle.roster.proofs.Chains.{all_hold, one_fails}
 use Rattle.roster.proofs.parts.sound.Goals as goal
+use Rattle.roster.proofs.parts.sound.Goals.{then-rising, else-rising, then-stated, else-stated}
 
-pub returns-then-held-gt-MOST_SERVERS : goal.returns-then-held-gt-MOST_SERVERS
+pub returns-then-all_are : goal.returns-then-all_are
 unfolding sound
-returns-then-held-gt-MOST_SERVERS c =
-    let fit-servers : leb c.args.held (length c.args.servers.now) ≡ true = le-leb _ _ c.if-held-servers.false in
-    let fit-states : leb c.args.held (length c.args.states.now) ≡ true = le-leb _ _ c.if-held-states.false in
-    rw (fit-servers, fit-states, lt-leb _ _ c.if-held-gt-MOST_SERVERS.true)
+returns-then-all_are c =
+    let h = c.args.held in
+    let R = rising 0 (take h c.args.servers.now) in
+    let S = all_stated (take h c.args.states.now) in
+    let A = all_zero (drop h c.args.servers.now) in
+    let Z = all_zero (drop h c.args.states.now) in
+    let r : c.rising.result ≡ R = cc in
+    let first : c.if-rising.value ≡ cond R S false =
+    elim c.if-rising.branch [
+      | then-rising w ↦ let t : R ≡ true = cc in rw t cc
+      | else-rising w ↦ let t : R ≡ false = cc in rw t cc
+    ] in
+    let second : c.if-stated.value ≡ cond (cond R S false) A false =
+    elim c.if-stated.branch [
+      | then-stated w ↦
+          let t : cond R S false ≡ true = cc in
+          let a = all_are_zero c.split_at.result.1.now in
+          rw t cc
+      | else-stated w ↦ let t : cond R S false ≡ false = cc in rw t cc
+    ] in
+    let z : c.all_zero.result ≡ Z = cc in
+    let fit-servers : leb h (length c.args.servers.now) ≡ true = le-leb _ _ c.if-held-servers.false in
+    let fit-states : leb h (length c.args.states.now) ≡ true = le-leb _ _ c.if-held-states.false in
+    let few : leb h 64 ≡ true = le-leb _ _ c.if-held-gt-MOST_SERVERS.false in
+    let v : valid c.args.settings ≡ true = sym c.if-not-valid.ensures in
+    rw (fit-servers, fit-states, few, z) (all_hold R S A Z (valid c.args.settings) (sym second ∙ c.if-all_are.true) v)
 
-pub returns-then-not-rising : goal.returns-then-not-rising
+pub returns-else-all_are : goal.returns-else-all_are
 unfolding sound
-returns-then-not-rising c =
-    let fit-servers : leb c.args.held (length c.args.servers.now) ≡ true = le-leb _ _ c.if-held-servers.false in
-    let fit-states : leb c.args.held (length c.args.states.now) ≡ true = le-leb _ _ c.if-held-states.false in
-    let held-ok : leb c.args.held 64 ≡ true = le-leb _ _ c.if-held-gt-MOST_SERVERS.false in
-    rw (fit-servers, fit-states, held-ok, sym c.rising.ensures ∙ c.if-not-rising.true)
-
-pub returns-then-not-zeros : goal.returns-then-not-zeros
-unfolding sound
-returns-then-not-zeros c =
-    let fit-servers : leb c.args.held (length c.args.servers.now) ≡ true = le-leb _ _ c.if-held-servers.false in
-    let fit-states : leb c.args.held (length c.args.states.now) ≡ true = le-leb _ _ c.if-held-states.false in
-    let held-ok : leb c.args.held 64 ≡ true = le-leb _ _ c.if-held-gt-MOST_SERVERS.false in
-    let rising-ok : rising 0 (take c.args.held c.args.servers.now) ≡ true = sym c.rising.ensures ∙ c.if-not-rising.false in
-    let z : all_zero (drop c.args.held c.args.servers.now) ≡ false = rest-zero c.args.held c.args.servers.now _ c.zeros.ensures ∙ c.if-not-zeros.true in
-    rw (fit-servers, fit-states, held-ok, rising-ok, z) (sym (idle (all_stated (take c.args.held c.args.states.now))))
-
-pub returns-then-not-stated : goal.returns-then-not-stated
-unfolding sound
-returns-then-not-stated c =
-    let fit-servers : leb c.args.held (length c.args.servers.now) ≡ true = le-leb _ _ c.if-held-servers.false in
-    let fit-states : leb c.args.held (length c.args.states.now) ≡ true = le-leb _ _ c.if-held-states.false in
-    let held-ok : leb c.args.held 64 ≡ true = le-leb _ _ c.if-held-gt-MOST_SERVERS.false in
-    let rising-ok : rising 0 (take c.args.held c.args.servers.now) ≡ true = sym c.rising.ensures ∙ c.if-not-rising.false in
-    rw (fit-servers, fit-states, held-ok, rising-ok, sym c.stated.ensures ∙ c.if-not-stated.true)
-
-pub returns-then-not-all_zero : goal.returns-then-not-all_zero
-unfolding sound
-returns-then-not-all_zero c =
-    let fit-servers : leb c.args.held (length c.args.servers.now) ≡ true = le-leb _ _ c.if-held-servers.false in
-    let fit-states : leb c.args.held (length c.args.states.now) ≡ true = le-leb _ _ c.if-held-states.false in
-    let held-ok : leb c.args.held 64 ≡ true = le-leb _ _ c.if-held-gt-MOST_SERVERS.false in
-    let rising-ok : rising 0 (take c.args.held c.args.servers.now) ≡ true = sym c.rising.ensures ∙ c.if-not-rising.false in
-    let servers-ok : all_zero (drop c.args.held c.args.servers.now) ≡ true = rest-zero c.args.held c.args.servers.now _ c.zeros.ensures ∙ c.if-not-zeros.false in
-    let stated-ok : all_stated (take c.args.held c.args.states.now) ≡ true = sym c.stated.ensures ∙ c.if-not-stated.false in
-    let z : all_zero (drop c.args.held c.args.states.now) ≡ false = rest-zero c.args.held c.args.states.now _ c.all_zero.ensures ∙ c.if-not-all_zero.true in
-    rw (fit-servers, fit-states, held-ok, rising-ok, stated-ok, servers-ok, z)
-
-pub returns : goal.returns
-unfolding sound
-returns c =
-    let fit-servers : leb c.args.held (length c.args.servers.now) ≡ true = le-leb _ _ c.if-held-servers.false in
-    let fit-states : leb c.args.held (length c.args.states.now) ≡ true = le-leb _ _ c.if-held-states.false in
-    let held-ok : leb c.args.held 64 ≡ true = le-leb _ _ c.if-held-gt-MOST_SERVERS.false in
-    let rising-ok : rising 0 (take c.args.held c.args.servers.now) ≡ true = sym c.rising.ensures ∙ c.if-not-rising.false in
-    let servers-ok : all_zero (drop c.args.held c.args.servers.now) ≡ true = rest-zero c.args.held c.args.servers.now _ c.zeros.ensures ∙ c.if-not-zeros.false in
-    let stated-ok : all_stated (take c.args.held c.args.states.now) ≡ true = sym c.stated.ensures ∙ c.if-not-stated.false in
-    let states-ok : all_zero (drop c.args.held c.args.states.now) ≡ true = rest-zero c.args.held c.args.states.now _ c.all_zero.ensures ∙ c.if-not-all_zero.false in
-    rw (fit-servers, fit-states, held-ok, rising-ok, stated-ok, servers-ok, states-ok) c.valid.ensures
+returns-else-all_are c =
+    let h = c.args.held in
+    let R = rising 0 (take h c.args.servers.now) in
+    let S = all_stated (take h c.args.states.now) in
+    let A = all_zero (drop h c.args.servers.now) in
+    let Z = all_zero (drop h c.args.states.now) in
+    let r : c.rising.result ≡ R = cc in
+    let first : c.if-rising.value ≡ cond R S false =
+    elim c.if-rising.branch [
+      | then-rising w ↦ let t : R ≡ true = cc in rw t cc
+      | else-rising w ↦ let t : R ≡ false = cc in rw t cc
+    ] in
+    let second : c.if-stated.value ≡ cond (cond R S false) A false =
+    elim c.if-stated.branch [
+      | then-stated w ↦
+          let t : cond R S false ≡ true = cc in
+          let a = all_are_zero c.split_at.result.1.now in
+          rw t cc
+      | else-stated w ↦ let t : cond R S false ≡ false = cc in rw t cc
+    ] in
+    let fit-servers : leb h (length c.args.servers.now) ≡ true = le-leb _ _ c.if-held-servers.false in
+    let fit-states : leb h (length c.args.states.now) ≡ true = le-leb _ _ c.if-held-states.false in
+    let few : leb h 64 ≡ true = le-leb _ _ c.if-held-gt-MOST_SERVERS.false in
+    rw (fit-servers, fit-states, few, c.if-all_are.false) (one_fails R S A Z (valid c.args.settings) (sym second ∙ c.if-all_are.false))
