@@ -8,7 +8,8 @@ use mathlib.Core.Path.{◌≡◌, refl, sym, ap, ◌∙◌}
 use native.Mathlib.Nat.{not-suc-le-zero, le_of_suc-le-suc}
 use native.Mathlib.Omega.{arith}
 use lib.Dec.{ltb}
-use lib.ListN.{length, get_or, set, take, drop, length-set}
+use lib.ListN.{length, get_or, set, drop, length-set}
+use Rattle.std.proofs.lemmas.List.{take-set-le, set-append_right}
 use lib.Seq.{set-append_left, get_or-set_same, get_or-set_other}
 use borrow.Author.Tests.{ltb-true, ltb-false, lt-ltb, le-ltb}
 use Rattle.sets.proofs.Cases.{both}
@@ -24,15 +25,8 @@ use Rattle.table.proofs.Finds.{found_from, found_within, found_first}
 abbrev pub half_record : List ℕ → List ℕ
 half_record r = set r tag_offset half_closed_tag
 
--- bytes behind and before the tag
-take-set : (r : List ℕ) (n i a : ℕ) → n ≤ i → take n (set r i a) ≡ take n r
-take-set r zero i a h = refl
-take-set [] (suc n) i a h = refl
-take-set (x ∷ r) (suc n) zero a h = absurd (not-suc-le-zero h)
-take-set (x ∷ r) (suc n) (suc i) a h = ap (λ (l : List ℕ). x ∷ l) (take-set r n i a (le_of_suc-le-suc h))
-
 pub half_key : (r : List ℕ) → key_of (half_record r) ≡ key_of r
-half_key r = take-set r 13 13 2 (omega arith)
+half_key r = take-set-le 13 r 13 2 (omega arith)
 
 pub half_server : (r : List ℕ) → server_of (half_record r) ≡ server_of r
 half_server r =
@@ -43,15 +37,6 @@ pub half_tag : (r : List ℕ) → length r ≡ 20 → tag_of (half_record r) ≡
 half_tag r n = get_or-set_same r 13 2 0 (omega arith)
 
 -- ---- a table
-
--- a byte that is stored behind the first bytes
-set-behind : (xs ys : List ℕ) (n i a : ℕ) → length xs ≡ n → set (xs ++ ys) (n + i) a ≡ xs ++ set ys i a
-set-behind [] ys zero i a e = let z : 0 + i ≡ i = omega arith in rw z
-set-behind [] ys (suc n) i a e = absurd (omega arith)
-set-behind (x ∷ xs) ys zero i a e = absurd (omega arith)
-set-behind (x ∷ xs) ys (suc n) i a e =
-    let s : suc n + i ≡ suc (n + i) = omega arith in
-    rw s (ap (λ (l : List ℕ). x ∷ l) (set-behind xs ys n i a (omega arith)))
 
 -- the list whose record at a place, counted from 1, is half-closed
 abbrev pub half_at : ℕ → List (List ℕ) → List (List ℕ)
@@ -93,25 +78,30 @@ set_record (r ∷ rs) rest zero e h =
     (set-append_left r (bytes_of rs ++ rest) 13 2 (let n : length r ≡ 20 = e.0 in omega arith))
 set_record (r ∷ rs) rest (suc i) e h =
     let n : suc i * 20 + 13 ≡ 20 + (i * 20 + 13) = omega arith in
+    let behind : 20 + (i * 20 + 13) - 20 ≡ i * 20 + 13 = omega arith in
     rw (n, append_assoc r (bytes_of rs) rest, append_assoc r (bytes_of (half_at (suc i) rs)) rest)
-    (set-behind r (bytes_of rs ++ rest) 20 (i * 20 + 13) 2 e.0
+    (set-append_right r (bytes_of rs ++ rest) 20 (20 + (i * 20 + 13)) 2 e.0 (omega arith)
+    ∙ ap (λ (k : ℕ). r ++ set (bytes_of rs ++ rest) k 2) behind
     ∙ ap (λ (l : List ℕ). r ++ l) (set_record rs rest i e.1 (le_of_suc-le-suc h)))
 
 -- a place outside the used part
-pub half_none : (t : List ℕ) → t ≡ half_closed 0 t
+half_none : (t : List ℕ) → t ≡ half_closed 0 t
 unfolding half_closed
 half_none t = refl
 
-pub half_out : (t : List ℕ) (place : ℕ) → used t < place → t ≡ half_closed place t
+half_out : (t : List ℕ) (place : ℕ) → used t < place → t ≡ half_closed place t
 unfolding half_closed
 half_out t zero h = refl
 half_out t (suc i) h = rw (le-ltb i (used t) (omega arith))
 
+pub half_nowhere : (t : List ℕ) (place : ℕ) → (place ≡ 0) ⊎ (used t < place) → t ≡ half_closed place t
+half_nowhere t place = ⊎_elim (λ z. rw z (half_none t)) (half_out t place)
+
 -- a place inside it: one byte is stored
-pub half_in : (t : List ℕ) (place a : ℕ) → (place ≡ 0 → ⊥) → place ≤ used t → a ≡ (place - 1) * 20 + 13 → set t a 2 ≡ half_closed place t
+pub half_in : (t : List ℕ) (place i : ℕ) → (place ≡ i + 1) × (i < used t) → set t (i * 20 + 13) 2 ≡ half_closed place t
 unfolding half_closed
-half_in t zero a n h e = absurd (n refl)
-half_in t (suc i) a n h e = let q : a ≡ i * 20 + 13 = omega arith in rw (lt-ltb i (used t) h, q)
+half_in t zero i p = absurd (omega (arith, p.0))
+half_in t (suc k) i p = let q : k ≡ i = omega (arith, p.0) in rw (q, lt-ltb i (used t) p.1)
 
 -- the table has the used part with that record half-closed, and later bytes stay
 packed_in : (t : List ℕ) (i : ℕ) → i < used t → half_closed (suc i) t ≡ packed (half_at (suc i) (used_part t)) t

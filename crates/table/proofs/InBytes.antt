@@ -3,11 +3,11 @@
 use Prim.Native.Nat.{ℕ, suc, ◌+◌, ◌*◌, ◌-◌, ◌<◌, ◌≤◌}
 use mathlib.Core.Bool.{true, cond}
 use mathlib.Core.List.{List, [], ◌∷◌, ◌++◌, append_assoc}
-use mathlib.Core.Logic.{◌⊎◌, ⊎_elim}
+use mathlib.Core.Logic.{◌⊎◌}
 use mathlib.Core.Path.{◌≡◌, refl, sym, ap, subst, ◌∙◌}
 use native.Mathlib.Omega.{arith}
 use lib.Dec.{eqb}
-use lib.ListN.{length, get_or, take, drop, replicate, length-append, length-drop, length-replicate}
+use lib.ListN.{length, get_or, set, take, drop, replicate, length-append, length-drop, length-replicate}
 use lib.Seq.{take_at, drop_at, length-take-le, get_or-take, get_or-drop, get_or-set_same, get_or-set_other}
 use borrow.Author.Tests.{eqb-true, eqb-false, ne_eqb, lt-ltb}
 use Rattle.bigendian.specs.BigEndian.{bytes4}
@@ -19,7 +19,7 @@ use Rattle.table.proofs.Places.{used_more}
 use Rattle.table.proofs.Parts.{Each, Sized, Tagged, used_tags, tags_are, each_at, bytes_length, used_fits, used-at, used_sized, used_tagged, records_behind, behind_unused}
 use Rattle.table.proofs.Packing.{without_in, without_each, without-length, not_naming_each, not_naming-length}
 use Rattle.table.proofs.Records.{used-removed_server, new_length}
-use Rattle.table.proofs.HalfClosed.{half_none, half_out, half_in}
+use Rattle.table.proofs.HalfClosed.{half_nowhere, half_in}
 
 -- "The used part of a table is all records before the first whose tag is not" 1 or 2: request [1], "The used part runs over tags 1 and 2."
 module _ (t : List ℕ) where
@@ -107,17 +107,18 @@ removed-zero i t h =
 
 -- request [1], "sets its tag to 2": at a place of the used part that byte is 2 and every other byte stays; at any other place nothing changes
 module _ (t : List ℕ) (place : ℕ) where
+  at_index : (place ≡ 0 → ⊥) → place ≤ used t → set t ((place - 1) * 20 + 13) 2 ≡ half_closed place t
+  at_index n h = let p : 1 ≤ place = omega arith in half_in t place (place - 1) (omega arith, omega arith)
+
   pub half_here : (place ≡ 0 → ⊥) → place ≤ used t → get_or (half_closed place t) ((place - 1) * 20 + 13) 0 ≡ 2
   half_here n h =
-      rw (← (half_in t place ((place - 1) * 20 + 13) n h refl))
-      (get_or-set_same t ((place - 1) * 20 + 13) 2 0 (omega (arith, used_fits t)))
+      rw (← (at_index n h)) (get_or-set_same t ((place - 1) * 20 + 13) 2 0 (omega (arith, used_fits t)))
 
   pub half_others : (place ≡ 0 → ⊥) → place ≤ used t → (j : ℕ) → (j ≡ (place - 1) * 20 + 13 → ⊥) → get_or (half_closed place t) j 0 ≡ get_or t j 0
-  half_others n h j o =
-      rw (← (half_in t place ((place - 1) * 20 + 13) n h refl)) (get_or-set_other t ((place - 1) * 20 + 13) j 2 0 o)
+  half_others n h j o = rw (← (at_index n h)) (get_or-set_other t ((place - 1) * 20 + 13) j 2 0 o)
 
   pub half_outside : (place ≡ 0) ⊎ (used t < place) → half_closed place t ≡ t
-  half_outside = ⊎_elim (λ z. rw z (sym (half_none t))) (λ h. sym (half_out t place h))
+  half_outside o = sym (half_nowhere t place o)
 
 -- "Remove working takes away every record naming that server.": none is left, those of any other server stay in their order, and what they leave is zeroed
 gone : (s : ℕ) (rs : List (List ℕ)) → Each (λ r. server_of r ≡ s → ⊥) (not_naming s rs)

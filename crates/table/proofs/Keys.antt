@@ -15,10 +15,6 @@ use Rattle.words.specs.Words.{word_at, BytesAt}
 use Rattle.table.specs.Searching.{Spelt}
 use Rattle.words.proofs.Digits.{word_bytes, bytes_word}
 
-pub spells : (key : List ℕ) (front back : ℕ) → length key ≡ 13 → (front ≡ word_at key 0) × BytesAt key 0 8
-    → (back ≡ word_at key 5) × BytesAt key 5 8 → Spelt key front back
-spells key front back n f b = record { whole = n; front_word = f.0; back_word = b.0; front_bytes = f.1; back_bytes = b.1 }
-
 -- a place that is written in two ways
 moved : (l : List ℕ) (i j : ℕ) → i ≡ j → get_or l i 0 ≡ get_or l j 0
 moved l i j e = ap (λ (k : ℕ). get_or l k 0) e

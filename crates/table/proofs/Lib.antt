@@ -3,6 +3,7 @@ pub mod Places
 pub mod Moves
 pub mod Searching
 pub mod Parts
+pub mod Counting
 pub mod Packing
 pub mod Removals
 pub mod Records

@@ -1,5 +1,5 @@
 -- The records of a table by their places: the bytes at an index, and the ways on of a scan that has come to an index.
-use Prim.Native.Nat.{ℕ, zero, suc, ◌+◌, ◌*◌, ◌-◌, ◌/◌, ◌<◌, ◌≤◌}
+use Prim.Native.Nat.{ℕ, zero, suc, ◌+◌, ◌*◌, ◌/◌, ◌<◌, ◌≤◌}
 use mathlib.Core.Bool.{true, false, cond}
 use mathlib.Core.List.{List, [], ◌∷◌}
 use mathlib.Core.Logic.{◌⊎◌, ⊎_elim}
@@ -80,30 +80,32 @@ pub find-end : (t : List ℕ) (i : ℕ) → room t ≤ i → (key : List ℕ) (W
 unfolding find_among used_among
 find-end t i h key W so = rw (records_end t i h) at so
 
-pub count-end : (t : List ℕ) (i : ℕ) → room t ≤ i → used_among (drop i (records_of t)) ≡ []
-unfolding used_among
-count-end t i h = rw (records_end t i h)
-
 -- a place behind the last has no record
 none-at : (t : List ℕ) (i : ℕ) → room t < suc i → get_or (records_of t) i [] ≡ []
 none-at t i h = get_or-eq_default (records_of t) [] {n = i} (omega (arith, length_records t))
 
--- the server and the tag at a place: at place 0 and behind the last place there are none, and in between they are read off the bytes
-pub nothing-at : (t : List ℕ) (place : ℕ) → (place ≡ 0) ⊎ (room t < place) → (0 ≡ server_at place t) × (0 ≡ tag_at place t)
-unfolding server_at tag_at
-nothing-at t zero o = (refl, refl)
-nothing-at t (suc i) o = let n = none-at t i (⊎_elim (λ z. absurd (omega arith)) (λ h. h) o) in (rw n, rw n)
-
-pub server_in : (t : List ℕ) (place a : ℕ) → (place ≡ 0 → ⊥) → place ≤ room t → a ≡ (place - 1) * 20 + 16 → number4_at t a ≡ server_at place t
+-- the server and the tag at a place, counted from 1: where there is no such place there are none, else they are read off the bytes
+pub no_server : (t : List ℕ) (place : ℕ) → (place ≡ 0) ⊎ (room t < place) → 0 ≡ server_at place t
 unfolding server_at
-server_in t zero a n h e = absurd (n refl)
-server_in t (suc i) a n h e =
-    let at : (j : ℕ) → j < 20 → get_or (get_or (records_of t) i []) j 0 ≡ get_or t (i * 20 + j) 0 = record_byte t i (omega arith) in
-    let q : a ≡ i * 20 + 16 = omega arith in
-    let up : (j : ℕ) → a + j ≡ i * 20 + (16 + j) = λ j. omega arith in
-    rw (up 1, up 2, up 3, q, at 16 (omega arith), at 17 (omega arith), at 18 (omega arith), at 19 (omega arith))
+no_server t zero o = refl
+no_server t (suc i) o = rw (none-at t i (⊎_elim (λ z. absurd (omega arith)) (λ h. h) o))
 
-pub tag_in : (t : List ℕ) (place a : ℕ) → (place ≡ 0 → ⊥) → place ≤ room t → a ≡ (place - 1) * 20 + 13 → get_or t a 0 ≡ tag_at place t
+pub no_tag : (t : List ℕ) (place : ℕ) → (place ≡ 0) ⊎ (room t < place) → 0 ≡ tag_at place t
 unfolding tag_at
-tag_in t zero a n h e = absurd (n refl)
-tag_in t (suc i) a n h e = let q : a ≡ i * 20 + 13 = omega arith in rw q (sym (record_byte t i (omega arith) 13 (omega arith)))
+no_tag t zero o = refl
+no_tag t (suc i) o = rw (none-at t i (⊎_elim (λ z. absurd (omega arith)) (λ h. h) o))
+
+module _ (t : List ℕ) where
+  pub server_in : (place i : ℕ) → (place ≡ i + 1) × (i < room t) → number4_at t (i * 20 + 16) ≡ server_at place t
+  unfolding server_at
+  server_in zero i p = absurd (omega (arith, p.0))
+  server_in (suc k) i p =
+      let q : k ≡ i = omega (arith, p.0) in
+      let at : (j : ℕ) → j < 20 → get_or (get_or (records_of t) i []) j 0 ≡ get_or t (i * 20 + j) 0 = record_byte t i p.1 in
+      let up : (j : ℕ) → i * 20 + 16 + j ≡ i * 20 + (16 + j) = λ j. omega arith in
+      rw (q, up 1, up 2, up 3, at 16 (omega arith), at 17 (omega arith), at 18 (omega arith), at 19 (omega arith))
+
+  pub tag_in : (place i : ℕ) → (place ≡ i + 1) × (i < room t) → get_or t (i * 20 + 13) 0 ≡ tag_at place t
+  unfolding tag_at
+  tag_in zero i p = absurd (omega (arith, p.0))
+  tag_in (suc k) i p = let q : k ≡ i = omega (arith, p.0) in rw q (sym (record_byte t i p.1 13 (omega arith)))

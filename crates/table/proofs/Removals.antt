@@ -1,7 +1,8 @@
 -- The code's removals do what `removed` and `removed_server` say: a gap closed, and one pass that keeps the others.
-use Prim.Native.Nat.{ℕ, zero, suc, ◌+◌, ◌*◌, ◌-◌, ◌<◌, ◌≤◌}
+use Prim.Native.Nat.{ℕ, suc, ◌+◌, ◌*◌, ◌-◌, ◌<◌, ◌≤◌}
 use mathlib.Core.Bool.{cond}
 use mathlib.Core.List.{List, [], ◌∷◌, ◌++◌, append_assoc, append-nil}
+use mathlib.Core.Logic.{◌⊎◌, ⊎_elim}
 use mathlib.Core.Path.{◌≡◌, refl, sym, ap, ◌∙◌}
 use native.Mathlib.Numerals.{add-one}
 use native.Mathlib.Omega.{arith}
@@ -10,19 +11,19 @@ use lib.ListN.{length, get_or, take, drop, replicate, length-append, length-drop
 use lib.Seq.{paste, take-suc, take-add, take_at, take_all, drop_at, drop-drop, length-take-le}
 use borrow.Author.Tests.{eq-eqb, ne_eqb}
 use borrow.Rule.Slice.PartMut.{mid_of, post_of, put_mid, mid_len, Post-is}
-use Rattle.table.specs.Table.{server_of, records_of, used_part, used, room, server_at, bytes_of, packed, removed, not_naming, removed_server}
+use Rattle.table.specs.Table.{server_of, records_of, used_part, used, room, server_at, bytes_of, packed, without, removed, not_naming, removed_server}
 use Rattle.table.proofs.Places.{record_at_lem}
 use Rattle.table.proofs.Moves.{still_drop}
 use Rattle.table.proofs.Parts.{Sized, each_take, bytes_append, bytes_one, bytes_length, used_fits, used-at, used-take, used-drop, used_sized}
 use Rattle.table.proofs.Packing.{packed-same, without-none, without_out, without_in, not_naming-append, not_naming_each}
 
-pub removed-none : (t : List ℕ) → t ≡ removed 0 t
+-- a place outside the used part
+pub removed_nowhere : (t : List ℕ) (place n : ℕ) → n ≡ used t → (place ≡ 0) ⊎ (n < place) → t ≡ removed place t
 unfolding removed
-removed-none t = rw (without-none (used_part t)) (sym (packed-same t))
-
-pub removed_out : (t : List ℕ) (place : ℕ) → used t < place → t ≡ removed place t
-unfolding removed
-removed_out t place h = rw (without_out place (used_part t) h) (sym (packed-same t))
+removed_nowhere t place n e o =
+    let same : without place (used_part t) ≡ used_part t =
+    ⊎_elim (λ z. rw z (without-none (used_part t))) (λ h. without_out place (used_part t) (omega arith)) o in
+    rw same (sym (packed-same t))
 
 -- a gap closed in bytes is a record less
 pub removed_in : (t : List ℕ) (i : ℕ) → i < used t
@@ -49,11 +50,12 @@ removed_in t i h =
     ∙ sym (append_assoc (take (i * 20) t) (take k (drop (suc i * 20) t)) (replicate 20 0 ++ drop (used t * 20) t)))
 
 -- the same for a place counted from 1
-pub removed-at : (t x : List ℕ) (place n : ℕ) → n ≡ used t → (place ≡ 0 → ⊥) → place ≤ n
-    → x ≡ take ((place - 1) * 20) t ++ ((drop 20 (take (n * 20 - (place - 1) * 20) (drop ((place - 1) * 20) t)) ++ replicate 20 0) ++ drop (n * 20) t)
+pub removed_at : (t x : List ℕ) (place i n : ℕ) → n ≡ used t → (place ≡ i + 1) × (i < n)
+    → x ≡ take (i * 20) t ++ ((drop 20 (take (n * 20 - i * 20) (drop (i * 20) t)) ++ replicate 20 0) ++ drop (n * 20) t)
     → x ≡ removed place t
-removed-at t x zero n e z h w = absurd (z refl)
-removed-at t x (suc i) n e z h w = let q : suc i - 1 ≡ i = omega arith in (rw (q, e) at w) ∙ removed_in t i (omega arith)
+removed_at t x place i n e p w =
+    let q : place ≡ suc i = omega (arith, p.0) in
+    (rw e at w) ∙ rw q (removed_in t i (omega (arith, p.1)))
 
 -- i of the n used records of t₀ have been looked at and w of them kept: t has the kept ones in front, and from there on the bytes of t₀
 pub record Sifted (t₀ : List ℕ) (s n : ℕ) (t : List ℕ) (w i : ℕ) : Type 0 where

@@ -4,7 +4,7 @@ use Rattle.table.proofs.Searching.{Come}
 use Rattle.table.proofs.find.Given as goal
 
 abbrev pub invariant-loop-at : goal.invariant-loop-at
-invariant-loop-at l = (l.at ≤ l.end) × Come l.table 0 l.front l.back l.at
+invariant-loop-at l = (l.at ≤ l.end) × Come l.table 0 l.words.front l.words.back l.at
 
 abbrev pub decreases-loop-at : goal.decreases-loop-at
 decreases-loop-at l = l.end - l.at
