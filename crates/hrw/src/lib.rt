@@ -10,23 +10,18 @@ ghost use Rattle.ranking.specs.Ranking.{picked};
 ghost use Rattle.ranking.specs.Best.{best_of, beaten};
 ghost use Rattle.hash.specs.Hash.{weight};
 
-use ranking::{Best, Pick};
+use ranking::{Best, ByWeight, Pick};
 
-// The choice over the working servers, with its weight: each weight is computed once.
-pub fn choose(servers: &[u32], states: &[u8], digest: u32) -> Best
+// The choice over the working servers, with its weight: each weight is computed once. None where no server works.
+pub fn choose(servers: &[u32], states: &[u8], digest: u32) -> Option<Best>
     ensures { result ≡ best_of (hrw digest) (λ s. weight s digest) (in_state working servers.now states.now) }
 {
-    let mut best = ranking::none_yet();
-    let mut i = 0;
-    while i < servers.len() {
-        if states.len() <= i {
-            return best;
+    let mut best = None;
+    for (&server, &state) in servers.iter().zip(states) {
+        if state == sets::WORKING {
+            let measure = hash::weight(server, digest);
+            best = Some(ranking::keep::<ByWeight>(best, Best { server, measure }));
         }
-        if states[i] == sets::WORKING {
-            let server = servers[i];
-            best = ranking::keep_heavier(best, server, hash::weight(server, digest));
-        }
-        i += 1;
     }
     best
 }
@@ -35,25 +30,15 @@ pub fn choose(servers: &[u32], states: &[u8], digest: u32) -> Best
 pub fn outranked(servers: &[u32], states: &[u8], digest: u32, best: Best) -> bool
     ensures { result ≡ beaten heavier (λ s. weight s digest) best (in_state standby servers.now states.now) }
 {
-    let mut i = 0;
-    while i < servers.len() {
-        if states.len() <= i {
-            return false;
-        }
-        if states[i] == sets::STANDBY {
-            let server = servers[i];
-            if ranking::heavier(
+    servers.iter().zip(states).any(|(&server, &state)| {
+        state == sets::STANDBY
+            && ranking::heavier(
                 hash::weight(server, digest),
                 server,
                 best.measure,
                 best.server,
-            ) {
-                return true;
-            }
-        }
-        i += 1;
-    }
-    false
+            )
+    })
 }
 
 // What HRW gives a packet without a record: the choice over the working servers, and whether some
@@ -62,15 +47,14 @@ pub fn pick(servers: &[u32], states: &[u8], digest: u32) -> Pick
     ensures { result ≡ picked (hrw digest) (in_state working servers.now states.now)
         (in_state standby servers.now states.now) }
 {
-    let best = choose(servers, states, digest);
-    if !best.any {
-        return Pick {
+    match choose(servers, states, digest) {
+        Some(best) => Pick {
+            server: best.server,
+            flag: outranked(servers, states, digest, best),
+        },
+        None => Pick {
             server: 0,
             flag: false,
-        };
-    }
-    Pick {
-        server: best.server,
-        flag: outranked(servers, states, digest, best),
+        },
     }
 }

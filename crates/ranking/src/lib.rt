@@ -3,11 +3,12 @@
 
 #![tactic(auto)]
 
-ghost use Rattle.std.specs.Prelude.{◌≡◌};
-ghost use Rattle.ranking.specs.Best.{none_yet, kept};
+ghost use Rattle.std.specs.Prelude.{◌≡◌, ℕ, Bool};
+ghost use Rattle.ranking.specs.Best.{kept};
 ghost use Rattle.ranking.specs.Methods.{heavier as heavier-of, nearer as nearer-of};
 
 // Whether server a outranks server b by weight, as HRW and the row table rank.
+// Stays (4): as tuples, (weight_a, a) > (weight_b, b), an HRW pick among 64 servers takes 2,022 instructions, not 1,692; nearer likewise.
 pub fn heavier(weight_a: u32, a: u32, weight_b: u32, b: u32) -> bool
     ensures { result ≡ heavier-of weight_a a weight_b b }
 {
@@ -28,60 +29,59 @@ pub fn nearer(distance_a: u32, a: u32, distance_b: u32, b: u32) -> bool
 }
 
 // What a method gives a packet without a record: the choice over the working servers, and whether it is unsafe.
-#[derive(Clone, Copy)]
+// Stays (1): rows and ring entries hold server 0 where none works, and HRW answers as what is read of them does (`picked`).
+#[derive(Clone, Copy, PartialEq, Eq)]
 pub struct Pick {
     pub server: u32,
     pub flag: bool,
 }
 
-// The highest-ranked server so far with what was measured of it (weight or distance); before the
-// first server `any` is false.
-#[derive(Clone, Copy)]
+// A server with what a method measured of it, its weight or its distance: the best that a loop has met, or
+// one more.
+#[derive(Clone, Copy, PartialEq, Eq)]
 pub struct Best {
-    pub any: bool,
     pub server: u32,
     pub measure: u32,
 }
 
-// Before the first server.
-pub fn none_yet() -> Best
-    ensures { result ≡ none_yet }
-{
-    Best {
-        any: false,
-        server: 0,
-        measure: 0,
+// A way to rank servers by what was measured of them.
+pub trait Ranks {
+    ghost outranks: { ℕ → ℕ → ℕ → ℕ → Bool };
+
+    // Whether server a outranks server b.
+    fn outranks(a: Best, b: Best) -> bool
+        ensures { result ≡ outranks a.measure a.server b.measure b.server };
+}
+
+// By weight, as HRW and the row table rank.
+pub struct ByWeight;
+
+impl Ranks for ByWeight {
+    ghost outranks = { heavier-of };
+
+    fn outranks(a: Best, b: Best) -> bool {
+        heavier(a.measure, a.server, b.measure, b.server)
     }
 }
 
-// The best so far or one more server, whichever outranks the other by weight.
-pub fn keep_heavier(best: Best, server: u32, weight: u32) -> Best
-    ensures { result ≡ kept heavier-of best server weight }
-{
-    if best.any {
-        if !heavier(weight, server, best.measure, best.server) {
-            return best;
-        }
-    }
-    Best {
-        any: true,
-        server: server,
-        measure: weight,
+// By clockwise distance, as the ring ranks.
+pub struct ByDistance;
+
+impl Ranks for ByDistance {
+    ghost outranks = { nearer-of };
+
+    fn outranks(a: Best, b: Best) -> bool {
+        nearer(a.measure, a.server, b.measure, b.server)
     }
 }
 
-// The best so far or one more server, whichever outranks the other by distance.
-pub fn keep_nearer(best: Best, server: u32, distance: u32) -> Best
-    ensures { result ≡ kept nearer-of best server distance }
+// The best so far, none before the first server, or one more server, whichever outranks the other.
+#[tactic(auto, unfolding(crate::specs::Best::kept))]
+pub fn keep<R: Ranks>(best: Option<Best>, more: Best) -> Best
+    ensures { result ≡ kept R.outranks best more }
 {
-    if best.any {
-        if !nearer(distance, server, best.measure, best.server) {
-            return best;
-        }
-    }
-    Best {
-        any: true,
-        server: server,
-        measure: distance,
+    match best {
+        Some(best) if !R::outranks(more, best) => best,
+        _ => more,
     }
 }

@@ -1,67 +1,40 @@
--- The search of `read`, turn by turn: what the entries in use from index i on give a key is what the whole ring gives it.
-use mathlib.Core.Path.{◌≡◌, refl, sym, ◌∙◌, ap, subst}
-use Prim.Native.Nat.{ℕ, ◌+◌, ◌<◌, ◌≤◌, suc, min}
-use native.Mathlib.Nat.{lt_of_lt_of_le, min-le_left, suc-ne-zero, zero-lt-suc}
-use native.Mathlib.Omega.{arith}
-use mathlib.Core.Bool.{Bool, cond, not}
+-- A search of the entries in use, or else the first entry, gives a key what the ring gives it.
+use mathlib.Core.Path.{◌≡◌, refl, sym, ◌∙◌}
+use Prim.Native.Nat.{ℕ, min}
+use mathlib.Core.Bool.{true, false, cond}
 use mathlib.Core.List.{List, [], ◌∷◌}
-use lib.ListN.{length, get_or, take, drop, length-take, drop_of_length-le}
-use lib.Dec.{T, eqb}
-use lib.Seq.{take-nil, drop-cons, get_or-take}
-use borrow.Author.Tests.{le-leb, lt-leb}
+use denote.Ref.{Bor}
+use lib.ListN.{length, take}
+use lib.Dec.{leb}
+use Rattle.std.proofs.Common.{Option, None, Some, unwrap_or}
+use Rattle.std.specs.List.{find, slice_get}
+use Rattle.std.specs.Option.{option_copied, option_or, UnwrapsOrElse}
+use Rattle.std.proofs.lemmas.List.{take_min}
 use Rattle.ring.specs.declared.Entry.{Entry}
 use Rattle.ring.specs.Ring.{blank, first_from, entry_read}
 
--- the entry at an index
-abbrev pub at : List Entry → ℕ → Entry
-at es i = get_or es i blank
+module _ (point : ℕ) where
+  -- the first that isn't below the point, else another, is what a search finds
+  first_found : (l : List Entry) (otherwise : Entry) → first_from point l otherwise ≡ unwrap_or (find (λ (e : Entry). leb point e.position) l) otherwise
+  unfolding first_from
+  first_found [] otherwise = refl
+  first_found (e ∷ l) otherwise =
+      elim (leb point e.position) as (λ b. cond b e (first_from point l otherwise) ≡ unwrap_or (cond b (Some e) (find (λ (x : Entry). leb point x.position) l)) otherwise) [
+        | true ↦ refl
+        | false ↦ first_found l otherwise
+      ]
 
-pub empty : (es : List Entry) (places point : ℕ) → length es ≡ 0 → blank ≡ entry_read places point es
-unfolding entry_read first_from
-empty [] places point e = rw (take-nil places)
-empty (x ∷ es) places point e = absurd (suc-ne-zero (length es) e)
-
-pub not_empty : (es : List Entry) → T (not (eqb (length es) 0)) → 0 < length es
-not_empty [] t = absurd t
-not_empty (x ∷ es) t = zero-lt-suc (length es)
-
--- how many entries are looked at, at most
-abbrev pub reach : List Entry → ℕ → ℕ
-reach es places = min places (length es)
-
--- an entry that is not below the point is read, a lower one is passed
-first_here : (point : ℕ) (e : Entry) (l : List Entry) (otherwise : Entry) → point ≤ e.position → first_from point (e ∷ l) otherwise ≡ e
-unfolding first_from
-first_here point e l otherwise h = ap (λ (b : Bool). cond b e (first_from point l otherwise)) (le-leb _ _ h)
-
-first_later : (point : ℕ) (e : Entry) (l : List Entry) (otherwise : Entry) → e.position < point → first_from point (e ∷ l) otherwise ≡ first_from point l otherwise
-unfolding first_from
-first_later point e l otherwise h = ap (λ (b : Bool). cond b e (first_from point l otherwise)) (lt-leb _ _ h)
-
-module _ (es : List Entry) (places point : ℕ) where
-  -- what the entries from index i on give
-  abbrev pub gives-from : ℕ → Entry
-  gives-from i = first_from point (drop i (take places es)) (at es 0)
-
-  pub starts : gives-from 0 ≡ entry_read places point es
-  unfolding entry_read
-  starts = refl
-
-  module _ (i : ℕ) (so : gives-from i ≡ entry_read places point es) where
-    here : i < reach es places → drop i (take places es) ≡ at es i ∷ drop (i + 1) (take places es)
-    here l = drop-cons (take places es) i blank (subst (λ (k : ℕ). i < k) (sym (length-take places es)) l)
-        ∙ ap (λ (e : Entry). e ∷ drop (suc i) (take places es)) (get_or-take places es i blank (lt_of_lt_of_le l (min-le_left places (length es))))
-        ∙ ap (λ (k : ℕ). at es i ∷ drop k (take places es)) next
-      where
-        next : suc i ≡ i + 1
-        next = omega arith
-
-    pub found : i < reach es places → point ≤ (at es i).position → at es i ≡ entry_read places point es
-    found l h = sym (first_here point (at es i) _ _ h) ∙ (rw (here l) at so)
-
-    pub passed : i < reach es places → (at es i).position < point → gives-from (i + 1) ≡ entry_read places point es
-    passed l h = sym (first_later point (at es i) _ _ h) ∙ (rw (here l) at so)
-
-    pub none : reach es places ≤ i → at es 0 ≡ entry_read places point es
-    unfolding first_from
-    none h = rw (drop_of_length-le (take places es) (subst (λ (k : ℕ). k ≤ i) (sym (length-take places es)) h)) at so
+  -- so what a search of the entries in use found, and what the first entry is
+  module _ (places : ℕ) (P : Entry → Type 0) (zeros : (e : Entry) → P e → e ≡ blank) where
+    pub search_reads : (es : List Entry) (found first : Option (Bor Entry)) (r : Entry)
+        → option_copied found ≡ find (λ (e : Entry). leb point e.position) (take (min places (length es)) es)
+        → option_copied first ≡ slice_get es 0 → UnwrapsOrElse (option_copied (option_or found first)) P r
+        → r ≡ entry_read places point es
+    unfolding entry_read
+    search_reads es (Some x) first r f b u = rw (first_found, sym (rw take_min at f)) u
+    search_reads [] None None r f b u = rw (first_found, sym (rw take_min at f)) (zeros r u)
+    search_reads [] None (Some y) r f b u = cc
+    search_reads (e ∷ es) None None r f b u = cc
+    search_reads (e ∷ es) None (Some y) r f b u =
+        let q : y.now ≡ e = cc in
+        rw (first_found, sym (rw take_min at f)) (u ∙ q)

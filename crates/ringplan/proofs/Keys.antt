@@ -1,27 +1,29 @@
 -- Servers by their keys: the order of keys is the ring's order, and each server has its own key, from which its position and number are read back.
 use Prim.Native.Nat.{ℕ, zero, suc, ◌+◌, ◌^◌, ◌≤◌, ◌<◌}
-use mathlib.Core.Bool.{true, false, cond}
+use mathlib.Core.Bool.{Bool, true, false, cond}
 use mathlib.Core.List.{List, [], ◌∷◌, map}
 use mathlib.Core.Path.{◌≡◌, refl, sym, ap, ◌∙◌}
 use native.Mathlib.Nat.{not-suc-le-zero, le_of_suc-le-suc}
 use native.Mathlib.Numerals.{add-one}
 use native.Mathlib.Omega.{arith}
-use mir.Val.{bool_byte}
 use lib.Dec.{eqb, ltb}
 use lib.ListN.{length, get_or, drop, length-map, drop_of_length-le}
 use lib.Seq.{drop-cons}
 use borrow.Author.Tests.{eqb-true, eqb-false, eq-eqb, ne_eqb, ltb-true, ltb-false, lt-ltb, le-ltb}
+use Rattle.std.proofs.Common.{Option, None, Some}
+use Rattle.std.specs.List.{list_any}
+use Rattle.std.proofs.lemmas.List.{get_or-map}
 use Rattle.hash.specs.Hash.{position, distance}
 use Rattle.sets.specs.Sets.{member, in_state}
 use Rattle.sets.proofs.Cases.{both}
 use Rattle.ranking.specs.declared.Best.{Best}
-use Rattle.ranking.specs.Best.{none_yet, kept, best_of}
+use Rattle.ranking.specs.Best.{best_is, kept, best_of}
 use Rattle.ranking.specs.Ranking.{choice}
 use Rattle.ranking.specs.Methods.{nearer, ring}
 use Rattle.ranking.proofs.Scan.{kept_all, kept_all_best}
 use Rattle.ring.specs.declared.Entry.{Entry}
 use Rattle.ringplan.specs.Plan.{stands_before, placed, arranged, some, entry_of}
-use Rattle.ringplan.specs.Keys.{Fit, key_of, key_position, key_server, key_placed}
+use Rattle.ringplan.specs.Keys.{Fit, key_of, key_position, key_server}
 use Rattle.ringplan.proofs.Clockwise.{from}
 
 pub fit_all : (l : List ℕ) → ((i : ℕ) → get_or l i 0 < 2 ^ 32) → Fit l
@@ -39,11 +41,6 @@ fit_in_state k [] xs f = tt
 fit_in_state k (s ∷ ss) [] f = tt
 fit_in_state k (s ∷ ss) (x ∷ xs) f =
     both (eqb x k) (λ t. rw t (f.0, fit_in_state k ss xs f.1)) (λ t. rw t (fit_in_state k ss xs f.1))
-
-pub get_or_map : (g : ℕ → ℕ) (l : List ℕ) (i : ℕ) → i < length l → get_or (map g l) i 0 ≡ g (get_or l i 0)
-get_or_map g [] i h = absurd (not-suc-le-zero h)
-get_or_map g (s ∷ l) zero h = refl
-get_or_map g (s ∷ l) (suc i) h = get_or_map g l i (le_of_suc-le-suc h)
 
 fit_placed : (s : ℕ) (l : List ℕ) → s < 2 ^ 32 → Fit l → Fit (placed s l)
 unfolding placed
@@ -91,16 +88,6 @@ key_before a b ha hb =
     let m : position b < position a = omega arith in
     t ∙ sym (le-ltb (key_of a) (key_of b) (omega arith)))))
 
--- servers put in order, by their keys
-pub placed_keys : (s : ℕ) (l : List ℕ) → s < 2 ^ 32 → Fit l → key_placed (key_of s) (map key_of l) ≡ map key_of (placed s l)
-unfolding placed key_placed
-placed_keys s [] h f = refl
-placed_keys s (x ∷ l) h f =
-    both
-    (stands_before x s)
-    (λ t. rw (sym (key_before x s f.0 h) ∙ t, t) (ap (λ (r : List ℕ). key_of x ∷ r) (placed_keys s l h f.1)))
-    (λ t. rw (sym (key_before x s f.0 h) ∙ t, t) (ap (λ (r : List ℕ). key_of s ∷ r) (placed_keys x l f.0 f.1)))
-
 -- each server has its own key
 key_same : (s x : ℕ) → s < 2 ^ 32 → x < 2 ^ 32 → eqb (key_of s) (key_of x) ≡ eqb s x
 key_same s x hs hx =
@@ -115,24 +102,24 @@ member_keys s [] h f = refl
 member_keys s (x ∷ l) h f = rw (key_same s x h f.0, member_keys s l h f.1)
 
 -- a loop over the working servers' keys that keeps the nearest: what is left from index i on decides the whole, and the ways on
-module _ (keys : List ℕ) (p : ℕ) (best : Best) (i : ℕ) where
+module _ (keys : List ℕ) (p : ℕ) (best : Option Best) (i : ℕ) where
   abbrev pub Nearing : Type 0
   Nearing = (w : List ℕ) → Fit w → keys ≡ map key_of w → kept_all nearer (from p) best (drop i w) ≡ best_of (ring p) (from p) w
 
-pub nearing_none : (keys : List ℕ) (p : ℕ) (best : Best) → best ≡ none_yet → Nearing keys p best 0
-nearing_none keys p best e w f q = rw e (kept_all_best nearer (from p) w)
+pub nearing_none : (keys : List ℕ) (p : ℕ) → Nearing keys p None 0
+nearing_none keys p w f q = kept_all_best nearer (from p) w
 
-module _ (keys : List ℕ) (p : ℕ) (best : Best) (i : ℕ) (so : Nearing keys p best i) where
-  pub nearing_more : (r v d : ℕ) (best' : Best) → i < length keys → r ≡ key_position (get_or keys i 0) → d ≡ distance r p → v ≡ key_server (get_or keys i 0)
-      → best' ≡ kept nearer best v d → Nearing keys p best' (i + 1)
+module _ (keys : List ℕ) (p : ℕ) (best : Option Best) (i : ℕ) (so : Nearing keys p best i) where
+  pub nearing_more : (k r v d : ℕ) (best' : Best) → i < length keys → k ≡ get_or keys i 0 → r ≡ key_position k → d ≡ distance r p → v ≡ key_server k
+      → best' ≡ kept nearer best (best_is v d) → Nearing keys p (Some best') (i + 1)
   unfolding kept_all
-  nearing_more r v d best' h er ed ev eb w f q =
+  nearing_more k r v d best' h ek er ed ev eb w f q =
       let s = get_or w i 0 in
       let n : i < length w = omega (arith, ap length q, length-map w key_of) in
-      let k : get_or keys i 0 ≡ key_of s = ap (λ (l : List ℕ). get_or l i 0) q ∙ get_or_map key_of w i n in
+      let e : k ≡ key_of s = ek ∙ ap (λ (l : List ℕ). get_or l i 0) q ∙ get_or-map key_of w i 0 0 n in
       let fits : s < 2 ^ 32 = fit_at w i n f in
-      let a : v ≡ s = ev ∙ ap key_server k ∙ key_server_lem s fits in
-      let b : d ≡ from p s = ed ∙ ap (λ (x : ℕ). distance x p) (er ∙ ap key_position k ∙ key_position_lem s fits) in
+      let a : v ≡ s = ev ∙ ap key_server e ∙ key_server_lem s fits in
+      let b : d ≡ from p s = ed ∙ ap (λ (x : ℕ). distance x p) (er ∙ ap key_position e ∙ key_position_lem s fits) in
       rw (eb, a, b, add-one) (rw (drop-cons w i 0 n) at (so w f q))
 
   pub nearing_done : length keys ≤ i → (w : List ℕ) → Fit w → keys ≡ map key_of w → best ≡ best_of (ring p) (from p) w
@@ -140,18 +127,41 @@ module _ (keys : List ℕ) (p : ℕ) (best : Best) (i : ℕ) (so : Nearing keys 
   nearing_done h w f q =
       rw (drop_of_length-le w {i = i} (omega (arith, ap length q, length-map w key_of))) at (so w f q)
 
--- the entry worked out from keys is the entry that the server owns
-module _ (w : List ℕ) (s : ℕ) (f : Fit w) (h : s < 2 ^ 32) where
-  pub entry_own : (r v : ℕ) → r ≡ key_position (key_of s) → v ≡ key_server (key_of s) → member (key_of s) (map key_of w) ≡ true
-      → record { position = r; server = v; track = 0 } ≡ entry_of w s
-  entry_own r v er ev t = rw (sym (member_keys s w h f) ∙ t, er ∙ key_position_lem s h, ev ∙ key_server_lem s h)
+-- what a search for a key says of its server
+contains_key : (k : ℕ) (l : List ℕ) → list_any (λ (x : ℕ). eqb x k) l ≡ member k l
+contains_key k [] = refl
+contains_key k (x ∷ l) =
+    both
+    (eqb k x)
+    (λ t. rw (t, eq-eqb x k (sym (eqb-true k x t))))
+    (λ t. rw (t, ne_eqb x k (λ e. eqb-false k x t (sym e))) (contains_key k l))
 
-  pub entry_away : (r : ℕ) (b : Best) → r ≡ key_position (key_of s) → b ≡ best_of (ring r) (from r) w → member (key_of s) (map key_of w) ≡ false
-      → record { position = r; server = b.server; track = bool_byte b.any } ≡ entry_of w s
+pub contains_server : (s : ℕ) (w keys : List ℕ) (k : ℕ) (b : Bool) → s < 2 ^ 32 → Fit w → keys ≡ map key_of w → k ≡ key_of s
+    → b ≡ list_any (λ (x : ℕ). eqb x k) keys → member s w ≡ b
+contains_server s w keys k b h f q e c = sym (c ∙ contains_key k keys ∙ rw (q, e) (member_keys s w h f))
+
+-- the entry worked out from keys is the entry that the server owns
+module _ (w : List ℕ) (s : ℕ) (h : s < 2 ^ 32) (k : ℕ) (e : k ≡ key_of s) (r : ℕ) (er : r ≡ key_position k) where
+  at_position : r ≡ position s
+  at_position = er ∙ ap key_position e ∙ key_position_lem s h
+
+  pub entry_own : (v : ℕ) → v ≡ key_server k → member s w ≡ true → record { position = r; server = v; track = 0 } ≡ entry_of w s
+  entry_own v ev t = rw (t, at_position, ev ∙ ap key_server e ∙ key_server_lem s h)
+
+  pub entry_away : (b : Best) → Some b ≡ best_of (ring r) (from r) w → member s w ≡ false → record { position = r; server = b.server; track = 1 } ≡ entry_of w s
   unfolding best_of
-  entry_away r b er e t = rw (sym (member_keys s w h f) ∙ t, e, er ∙ key_position_lem s h) (names w)
+  entry_away b q t = rw (t, at_position) (names w (rw at_position at q))
     where
-      names : (v : List ℕ) → entry (position s) (best_of (ring (position s)) (from (position s)) v).server (bool_byte (best_of (ring (position s)) (from (position s)) v).any)
-          ≡ entry (position s) (choice (ring (position s)) v) (cond (some v) 1 0)
-      names [] = refl
-      names (y ∷ v) = refl
+      names : (v : List ℕ) → Some b ≡ best_of (ring (position s)) (from (position s)) v
+          → entry (position s) b.server 1 ≡ entry (position s) (choice (ring (position s)) v) (cond (some v) 1 0)
+      names [] q = cc
+      names (y ∷ v) q = cc
+
+  pub entry_alone : None ≡ best_of (ring r) (from r) w → member s w ≡ false → record { position = r; server = 0; track = 0 } ≡ entry_of w s
+  unfolding best_of
+  entry_alone q t = rw (t, at_position) (names w (rw at_position at q))
+    where
+      names : (v : List ℕ) → None ≡ best_of (ring (position s)) (from (position s)) v
+          → entry (position s) 0 0 ≡ entry (position s) (choice (ring (position s)) v) (cond (some v) 1 0)
+      names [] q = refl
+      names (y ∷ v) q = cc

@@ -4,6 +4,6 @@ pub mod Clockwise
 pub mod Reading
 pub mod Keys
 pub mod Scans
-pub mod Placing
+pub mod Sorting
 pub mod Planning
 pub mod Unique

@@ -2,134 +2,81 @@
 
 #![tactic(auto)]
 
-ghost use Rattle.std.specs.Prelude.{◌≡◌, List, map, ℕ, ◌<◌, ◌≤◌, ◌+◌, ◌^◌, length, take, replicate};
+ghost use Rattle.std.specs.Prelude.{◌≡◌, List, map, ℕ, ◌<◌, ◌≤◌, ◌^◌, length};
 ghost use Rattle.hash.specs.Hash.{position as position-of, distance};
-ghost use Rattle.sets.specs.Sets.{member, in_state, working as at-work, most_servers};
+ghost use Rattle.sets.specs.Sets.{in_state, working as at-work, most_servers};
 ghost use Rattle.ranking.specs.Best.{best_of};
 ghost use Rattle.ranking.specs.Methods.{ring as ring-at};
 ghost use Rattle.ringplan.specs.Plan.{arranged, entry_of, planned};
-ghost use Rattle.ringplan.specs.Keys.{Fit, key_of, key_position, key_server, key_placed, Rising};
-ghost use Rattle.ring.specs.Ring.{blank, ring_places};
+ghost use Rattle.ringplan.specs.Keys.{Fit, key_of, key_position, key_server};
 
-use ranking::Best;
+use ranking::{Best, ByDistance};
 use ring::Entry;
+
+// How many numbers a server can have, and a position.
+const NUMBERS: u64 = 1 << 32;
 
 // A server's place in the ring's order as one number: its position, and below it the number counted down from the highest.
 fn key(server: u32) -> u64
     ensures { result ≡ key_of server }
 {
-    (hash::position(server) as u64) * 4294967296 + (4294967295 - (server as u64))
-}
-
-// Puts one more key among the first n of an order: those above it move up by one.
-fn place(order: &mut [u64], n: usize, key: u64)
-    requires { (n < length order.old) × Rising 0 (take n order.old) }
-    ensures { take (n + 1) order.new ≡ key_placed key (take n order.old) }
-{
-    let mut i = n;
-    while 0 < i {
-        let here = order[i - 1];
-        if here <= key {
-            order[i] = key;
-            return;
-        }
-        order[i] = here;
-        i -= 1;
-    }
-    order[0] = key;
-}
-
-// The keys of servers, 64 at most, in the ring's order.
-fn arrange(servers: &[u32]) -> [u64; sets::MOST_SERVERS]
-    requires { length servers.now ≤ most_servers }
-    ensures { take (length servers.now) result ≡ map key_of (arranged servers.now) }
-{
-    let mut order = [0u64; sets::MOST_SERVERS];
-    let mut n = 0;
-    let mut i = servers.len();
-    while 0 < i {
-        i -= 1;
-        place(&mut order, n, key(servers[i]));
-        n += 1;
-    }
-    order
-}
-
-// The keys of the working servers: the first `held` of 64 places.
-#[derive(Clone, Copy)]
-struct AtWork {
-    keys: [u64; sets::MOST_SERVERS],
-    held: usize,
-}
-
-// The keys of the working ones of at most 64 servers.
-fn working(servers: &[u32], states: &[u8]) -> AtWork
-    requires { length servers.now ≤ most_servers }
-    ensures { (result.held ≤ most_servers) × ((length result.keys ≡ most_servers)
-        × (take result.held result.keys ≡ map key_of (in_state at-work servers.now states.now))) }
-{
-    let mut keys = [0u64; sets::MOST_SERVERS];
-    let mut n = 0;
-    let mut i = 0;
-    while i < servers.len() {
-        if states.len() <= i {
-            return AtWork {
-                keys: keys,
-                held: n,
-            };
-        }
-        if states[i] == sets::WORKING {
-            keys[n] = key(servers[i]);
-            n += 1;
-        }
-        i += 1;
-    }
-    AtWork {
-        keys: keys,
-        held: n,
-    }
-}
-
-// Whether a key is among others.
-fn among(keys: &[u64], key: u64) -> bool
-    ensures { result ≡ member key keys.now }
-{
-    let mut i = 0;
-    while i < keys.len() {
-        if keys[i] == key {
-            return true;
-        }
-        i += 1;
-    }
-    false
+    u64::from(hash::position(server)) * NUMBERS + u64::from(u32::MAX - server)
 }
 
 // The position in a key.
+#[tactic(auto, unfolding(crate::specs::Keys::key_position))]
 fn position_of(key: u64) -> u32
     ensures { result ≡ key_position key }
 {
-    (key / 4294967296) as u32
+    (key / NUMBERS) as u32
 }
 
 // The server of a key.
+#[tactic(auto, unfolding(crate::specs::Keys::key_server))]
 fn server_of(key: u64) -> u32
     ensures { result ≡ key_server key }
 {
-    (4294967295 - key % 4294967296) as u32
+    u32::MAX - (key % NUMBERS) as u32
+}
+
+// The keys of servers, 64 at most, in the ring's order, written to the front of a lent list.
+fn arrange<'a>(servers: &[u32], order: &'a mut [u64; sets::MOST_SERVERS]) -> &'a [u64]
+    requires { length servers.now ≤ most_servers }
+    ensures { result.now ≡ map key_of (arranged servers.now) }
+{
+    for (i, &server) in servers.iter().enumerate() {
+        order[i] = key(server);
+    }
+    let order = &mut order[..servers.len()];
+    order.sort_unstable();
+    order
+}
+
+// The keys of the working ones of at most 64 servers, written to the front of a lent list.
+fn working<'a>(servers: &[u32], states: &[u8], keys: &'a mut [u64; sets::MOST_SERVERS]) -> &'a [u64]
+    requires { length servers.now ≤ most_servers }
+    ensures { result.now ≡ map key_of (in_state at-work servers.now states.now) }
+{
+    let mut held = 0;
+    for (&server, &state) in servers.iter().zip(states) {
+        if state == sets::WORKING {
+            keys[held] = key(server);
+            held += 1;
+        }
+    }
+    &keys[..held]
 }
 
 // The working server nearest clockwise from a point, with its distance: the one that a horizon server's entry at that point names.
-fn substitute(working: &[u64], point: u32) -> Best
+fn substitute(working: &[u64], point: u32) -> Option<Best>
     ensures { (w : List ℕ) → Fit w → working.now ≡ map key_of w
         → result ≡ best_of (ring-at point) (λ s. distance (position-of s) point) w }
 {
-    let mut best = ranking::none_yet();
-    let mut i = 0;
-    while i < working.len() {
-        let key = working[i];
-        let distance = hash::distance(position_of(key), point);
-        best = ranking::keep_nearer(best, server_of(key), distance);
-        i += 1;
+    let mut best = None;
+    for &key in working {
+        let server = server_of(key);
+        let measure = hash::distance(position_of(key), point);
+        best = Some(ranking::keep::<ByDistance>(best, Best { server, measure }));
     }
     best
 }
@@ -139,49 +86,39 @@ fn entry_for(working: &[u64], key: u64) -> Entry
     ensures { (w : List ℕ) (s : ℕ) → Fit w → s < 2 ^ 32 → working.now ≡ map key_of w → key ≡ key_of s → result ≡ entry_of w s }
 {
     let position = position_of(key);
-    if among(working, key) {
+    if working.contains(&key) {
         return Entry {
-            position: position,
+            position,
             server: server_of(key),
             track: 0,
         };
     }
-    let best = substitute(working, position);
-    Entry {
-        position: position,
-        server: best.server,
-        track: best.any as u8,
+    match substitute(working, position) {
+        Some(best) => Entry {
+            position,
+            server: best.server,
+            track: 1,
+        },
+        None => Entry {
+            position,
+            server: 0,
+            track: 0,
+        },
     }
-}
-
-// No entries at all.
-fn blank_plan() -> [Entry; ring::RING_PLACES]
-    ensures { result ≡ replicate ring_places blank }
-{
-    let e = Entry {
-        position: 0,
-        server: 0,
-        track: 0,
-    };
-    [e; ring::RING_PLACES]
 }
 
 // The plan of a ring for servers and their states, 1 working and 2 in the horizon.
 pub fn plan(servers: &[u32], states: &[u8]) -> [Entry; ring::RING_PLACES]
     ensures { result ≡ planned servers.now (in_state at-work servers.now states.now) }
 {
-    let mut plan = blank_plan();
-    if sets::MOST_SERVERS < servers.len() {
-        return plan;
-    }
-    let at_work = working(servers, states);
-    let held = at_work.held;
-    let keys = at_work.keys;
-    let order = arrange(servers);
-    let mut i = 0;
-    while i < servers.len() {
-        plan[i] = entry_for(&keys[..held], order[i]);
-        i += 1;
+    let mut plan = [Entry::default(); ring::RING_PLACES];
+    if servers.len() <= sets::MOST_SERVERS {
+        let (mut keys, mut order) = ([0; sets::MOST_SERVERS], [0; sets::MOST_SERVERS]);
+        let working = working(servers, states, &mut keys);
+        let order = arrange(servers, &mut order);
+        for (i, &key) in order.iter().enumerate() {
+            plan[i] = entry_for(working, key);
+        }
     }
     plan
 }

@@ -3,7 +3,7 @@
 
 #![tactic(auto)]
 
-ghost use Rattle.std.specs.Prelude.{◌≡◌, min, get_or};
+ghost use Rattle.std.specs.Prelude.{◌≡◌, min};
 ghost use Rattle.sets.specs.Sets.{in_state, working, standby};
 ghost use Rattle.rows.specs.Rows.{Rows, filled, cleared, row_read};
 
@@ -15,51 +15,50 @@ pub const ROW_PLACES: usize = 4096;
 // Fills the first `count` rows for the servers in states 1 (working) and 2 (horizon). In each row
 // every weight is computed once: the working servers' for the choice, then the horizon servers'
 // up to the first that outranks it.
+// Stays (2): `hrw::pick` would do, but document 01 names this form, "the inner search is left by a labelled break".
 pub fn fill(rows: &mut [u32], flags: &mut [u8], count: u16, servers: &[u32], states: &[u8])
     ensures { record { servers = rows.new; flags = flags.new }
         ≡ filled count (in_state working servers.now states.now) (in_state standby servers.now states.now)
         (record { servers = rows.old; flags = flags.old }) }
 {
-    let n = in_use(count as usize, rows.len(), flags.len());
-    let mut r = 0;
-    while r < n {
-        let d = r as u32;
-        let best = hrw::choose(servers, states, d);
-        let mut flag: u8 = 0;
-        if best.any {
-            let mut i = 0;
-            'search: while i < servers.len() {
-                if states.len() <= i {
+    for r in 0..in_use(count, rows.len(), flags.len()) {
+        let digest = r as u32;
+        let mut server = 0;
+        let mut flag = 0;
+        if let Some(best) = hrw::choose(servers, states, digest) {
+            server = best.server;
+            'search: for (&standby, &state) in servers.iter().zip(states) {
+                if state == sets::STANDBY
+                    && ranking::heavier(
+                        hash::weight(standby, digest),
+                        standby,
+                        best.measure,
+                        best.server,
+                    )
+                {
+                    flag = 1;
                     break 'search;
                 }
-                if states[i] == sets::STANDBY {
-                    let server = servers[i];
-                    let w = hash::weight(server, d);
-                    if ranking::heavier(w, server, best.measure, best.server) {
-                        flag = 1;
-                        break 'search;
-                    }
-                }
-                i += 1;
             }
         }
-        rows[r] = best.server;
+        rows[r] = server;
         flags[r] = flag;
-        r += 1;
     }
 }
 
-// Zeroes the first `count` rows and their flags: a fill for no server at all.
+// Zeroes the first `count` rows and their flags.
+#[tactic(auto, unfolding(crate::specs::Rows::cleared))]
 pub fn clear(rows: &mut [u32], flags: &mut [u8], count: u16)
     ensures { record { servers = rows.new; flags = flags.new }
         ≡ cleared count (record { servers = rows.old; flags = flags.old }) }
 {
-    let servers = [0u32; 1];
-    let states = [0u8; 1];
-    fill(rows, flags, count, &servers[..0], &states[..0]);
+    let n = in_use(count, rows.len(), flags.len());
+    rows[..n].fill(0);
+    flags[..n].fill(0);
 }
 
 // What a key reads, whose F is f: the server and the flag of its row.
+#[tactic(auto, unfolding(crate::specs::Rows::row_read))]
 pub fn read(rows: &[u32], flags: &[u8], count: u16, f: u32) -> Pick
     ensures { result ≡ row_read count f (record { servers = rows.now; flags = flags.now }) }
 {
@@ -69,45 +68,16 @@ pub fn read(rows: &[u32], flags: &[u8], count: u16, f: u32) -> Pick
             flag: false,
         };
     }
-    let row = (f % (count as u32)) as usize;
-    let server = number_at(rows, row);
-    let flag = byte_at(flags, row);
+    let row = (f % u32::from(count)) as usize;
     Pick {
-        server: server,
-        flag: flag != 0,
+        server: rows.get(row).copied().unwrap_or(0),
+        flag: flags.get(row).copied().unwrap_or(0) != 0,
     }
 }
 
-// The number at an index, 0 past the end.
-fn number_at(list: &[u32], i: usize) -> u32
-    ensures { result ≡ get_or list.now i 0 }
-{
-    if list.len() <= i {
-        return 0;
-    }
-    list[i]
-}
-
-// The byte at an index, 0 past the end.
-fn byte_at(list: &[u8], i: usize) -> u8
-    ensures { result ≡ get_or list.now i 0 }
-{
-    if list.len() <= i {
-        return 0;
-    }
-    list[i]
-}
-
-// The smallest of three.
-fn in_use(count: usize, rows: usize, flags: usize) -> usize
+// The rows in use: as many as are counted, where both lists have them.
+fn in_use(count: u16, rows: usize, flags: usize) -> usize
     ensures { result ≡ min count (min rows flags) }
 {
-    let mut n = count;
-    if rows < n {
-        n = rows;
-    }
-    if flags < n {
-        n = flags;
-    }
-    n
+    usize::from(count).min(rows.min(flags))
 }

@@ -1,27 +1,18 @@
-use Rattle.std.proofs.Common.{◌≡◌, ◌∙◌, List, ap, length, slice_set, arith, rules}
-use Rattle.ring.specs.declared.Entry.{Entry}
-use Rattle.ring.proofs.Search.{at}
-use Rattle.ring.proofs.Writing.{too_many, too_short, one_more_turn, all-written}
+-- What the places and the lengths decide, `overlaid` decides alike.
+use borrow.Author.Tests.{le-leb, lt-leb}
+use Rattle.ring.specs.Ring.{overlaid}
 use Rattle.ring.proofs.draw.Goals as goal
-
-pub returns-then-places-gt-RING_PLACES : goal.returns-then-places-gt-RING_PLACES
-returns-then-places-gt-RING_PLACES c = too_many c.args.ring.now c.args.plan c.args.places c.if-places-gt-RING_PLACES.true
+use Rattle.ring.proofs.draw.Goals.{else-places-le-RING_PLACES-via-then-places-le-RING_PLACES+else-places-ring, else-places-le-RING_PLACES-via-else-places-le-RING_PLACES}
 
 pub returns-then-places-ring : goal.returns-then-places-ring
-returns-then-places-ring c =
-    too_short c.args.ring.now c.args.plan c.args.places c.if-places-gt-RING_PLACES.false c.if-places-ring.true
+unfolding overlaid
+returns-then-places-ring c = rw (le-leb _ _ c.if-places-le-RING_PLACES.true, le-leb _ _ c.if-places-ring.true, c.copy_from_slice.ensures.after)
 
-pub loop-i-preserved : goal.loop-i-preserved
-loop-i-preserved c =
-    let i = c.loop-i.i in
-    let count : length c.args.plan ≡ 64 = search rules in (
-      omega arith,
-      ap (λ (l : List Entry). slice_set l i (at c.args.plan i)) c.loop-i.invariant.1
-          ∙ one_more_turn c.args.ring.now c.args.plan c.args.places count c.if-places-gt-RING_PLACES.false c.if-places-ring.false i (omega arith) c.loop-i-test.true,
-    )
-
-pub returns : goal.returns
-returns c =
-    let count : length c.args.plan ≡ 64 = search rules in
-    c.loop-i.invariant.1
-    ∙ all-written c.args.ring.now c.args.plan c.args.places count c.if-places-gt-RING_PLACES.false c.if-places-ring.false c.loop-i.i c.loop-i.invariant.0 c.loop-i-test.false
+pub returns-else-places-le-RING_PLACES : goal.returns-else-places-le-RING_PLACES
+unfolding overlaid
+returns-else-places-le-RING_PLACES c =
+    elim c.else-places-le-RING_PLACES.branch [
+      | else-places-le-RING_PLACES-via-then-places-le-RING_PLACES+else-places-ring w ↦
+          rw (le-leb _ _ w.if-places-le-RING_PLACES.true, lt-leb _ _ w.if-places-ring.false)
+      | else-places-le-RING_PLACES-via-else-places-le-RING_PLACES w ↦ rw (lt-leb _ _ w.if-places-le-RING_PLACES.false)
+    ]

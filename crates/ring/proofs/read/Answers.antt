@@ -1,24 +1,15 @@
-use Rattle.std.proofs.Common.{◌<◌, ◌≤◌, arith}
-use Rattle.ring.proofs.Search.{reach, empty, starts, found, passed, none}
+use lib.Dec.{leb}
+use Rattle.std.proofs.Common.{rules, tests}
+use Rattle.std.proofs.lemmas.Iterator.{YieldsList-from_slice}
+use Rattle.std.proofs.lemmas.Iterator.Search.{find_from_yields_List}
+use Rattle.ring.specs.declared.Entry.{Entry}
+use Rattle.ring.proofs.Search.{search_reads}
 use Rattle.ring.proofs.read.Goals as goal
-
-pub returns-then-ring-eq0 : goal.returns-then-ring-eq0
-returns-then-ring-eq0 c = empty c.args.ring.now c.args.places c.args.point c.if-ring-eq0.true
-
-pub loop-i-init : goal.loop-i-init
-loop-i-init c = starts c.args.ring.now c.args.places c.args.point
-
-pub returns-then-point-e : goal.returns-then-point-e
-returns-then-point-e c =
-    let less : c.loop-i.i < reach c.args.ring.now c.args.places = omega (arith, c.lower-n.ensures) in
-    found c.args.ring.now c.args.places c.args.point c.loop-i.i c.loop-i.invariant less c.if-point-e.true
-
-pub loop-i-preserved : goal.loop-i-preserved
-loop-i-preserved c =
-    let less : c.loop-i.i < reach c.args.ring.now c.args.places = omega (arith, c.lower-n.ensures) in
-    passed c.args.ring.now c.args.places c.args.point c.loop-i.i c.loop-i.invariant less c.if-point-e.false
 
 pub returns : goal.returns
 returns c =
-    let over : reach c.args.ring.now c.args.places ≤ c.loop-i.i = omega (arith, c.lower-n.ensures) in
-    none c.args.ring.now c.args.places c.args.point c.loop-i.i c.loop-i.invariant over
+    let p = c.args in
+    let u = rw (c.copied.ensures, c.or.ensures) at c.unwrap_or_default.ensures in
+    search_reads p.point p.places _ (λ e d. search rules) p.ring.now c.find.result c.first.result c.unwrap_or_default.result
+    (find_from_yields_List (λ (e : Entry). leb p.point e.position) c.find.new.self _ c.find.result c.find.ensures.ran (YieldsList-from_slice _ (rw c.min.ensures at c.iter.ensures.rest)) (λ x b q k. search (rules, tests)))
+    c.first.ensures.value u

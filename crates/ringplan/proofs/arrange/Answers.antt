@@ -1,17 +1,20 @@
+use mathlib.Core.List.{map}
+use mathlib.Core.Path.{◌≡◌}
 use native.Mathlib.Omega.{arith}
-use Rattle.ringplan.proofs.Planning.{arranging_none, arranging_more, arranging_rises}
-use borrow.Author.Rules.{rules}
+use lib.ListN.{length, take}
+use lib.Seq.{take_all}
+use Prim.Native.Nat.{ℕ}
+use Rattle.std.proofs.lemmas.List.Sorted.{IsNonDecreasingBy-from_sort}
+use Rattle.ringplan.specs.Keys.{key_of}
+use Rattle.ringplan.proofs.Keys.{fit_all}
+use Rattle.ringplan.proofs.Sorting.{sorted_keys}
 use Rattle.ringplan.proofs.arrange.Goals as goal
 
-pub loop-i-init : goal.loop-i-init
-loop-i-init c = arranging_none c.args.servers.now _ (search rules)
-
-pub place-requires : goal.place-requires
-place-requires c =
-    let p = c.args in
-    (search rules, arranging_rises p.servers.now c.loop-i.order c.loop-i.n c.loop-i.i (λ j. omega (arith, c.type_inv.servers j)) c.loop-i.invariant)
-
-pub loop-i-preserved : goal.loop-i-preserved
-loop-i-preserved c =
-    let p = c.args in
-    arranging_more p.servers.now c.loop-i.order _ c.loop-i.n c.loop-i.i c.key.result (omega arith) c.loop-i.invariant c.place.auto.order (λ j. omega (arith, c.type_inv.servers j)) c.key.ensures c.place.ensures
+pub returns : goal.returns
+returns c =
+    let ss = c.args.servers.now in
+    let all : take c.loop-i.i ss ≡ ss = take_all c.loop-i.i ss (omega arith) in
+    let e : c.loop-i.i ≡ length ss = omega arith in
+    let q : take (length ss) c.loop-i.order ≡ map key_of ss = rw (all, e) at c.loop-i.invariant.0 in
+    sorted_keys ss c.sort_unstable.new.self (fit_all ss (λ j. omega (arith, c.type_inv.servers j))) (rw q at c.sort_unstable.ensures.permutation)
+    (IsNonDecreasingBy-from_sort (λ (x : ℕ). x) c.sort_unstable.new.self c.sort_unstable.ensures.sorted)

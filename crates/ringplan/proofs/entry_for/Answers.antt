@@ -1,14 +1,18 @@
--- `ringplan::entry_for` meets its contract.
-use mathlib.Core.Path.{sym, ◌∙◌}
-use Rattle.ringplan.proofs.Keys.{entry_own, entry_away}
+use mathlib.Core.Path.{◌∙◌}
+use Rattle.ringplan.proofs.Keys.{contains_server, entry_own, entry_away, entry_alone}
 use Rattle.ringplan.proofs.entry_for.Goals as goal
 
-pub returns-then-among : goal.returns-then-among
-returns-then-among c w s f h q k =
-    entry_own w s f h c.position_of-position.result c.server_of.result (rw k at c.position_of-position.ensures) (rw k at c.server_of.ensures)
-    (rw (k, q) at (sym c.among.ensures ∙ c.if-among.true))
+pub returns-then-contains : goal.returns-then-contains
+returns-then-contains c w s f h q k =
+    entry_own w s h c.args.key k c.position_of-position.result c.position_of-position.ensures c.server_of.result c.server_of.ensures
+    (contains_server s w c.args.working.now c.args.key _ h f q k c.contains.ensures.value ∙ c.if-contains.true)
 
-pub returns : goal.returns
-returns c w s f h q k =
-    entry_away w s f h c.position_of-position.result c.substitute-best.result (rw k at c.position_of-position.ensures) (c.substitute-best.ensures w f q)
-    (rw (k, q) at (sym c.among.ensures ∙ c.if-among.false))
+pub returns-in-Some : goal.returns-in-Some
+returns-in-Some c w s f h q k =
+    entry_away w s h c.args.key k c.position_of-position.result c.position_of-position.ensures c.in-Some.best (c.in-Some.ensures w f q)
+    (contains_server s w c.args.working.now c.args.key _ h f q k c.contains.ensures.value ∙ c.if-contains.false)
+
+pub returns-in-None : goal.returns-in-None
+returns-in-None c w s f h q k =
+    entry_alone w s h c.args.key k c.position_of-position.result c.position_of-position.ensures (c.in-None.ensures w f q)
+    (contains_server s w c.args.working.now c.args.key _ h f q k c.contains.ensures.value ∙ c.if-contains.false)

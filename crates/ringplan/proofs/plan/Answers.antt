@@ -1,32 +1,33 @@
+use mathlib.Core.Path.{ap}
 use native.Mathlib.Omega.{arith}
+use lib.ListN.{replicate}
 use Rattle.sets.specs.Sets.{in_state}
-use Rattle.ringplan.proofs.Planning.{ready, laid_none, laid_more, laid_done, planned-none}
+use Rattle.ring.specs.declared.Entry.{Entry}
+use Rattle.ringplan.proofs.Planning.{as_many, laid_more, laid_done, entry_blank, planned-none}
 use borrow.Author.Rules.{rules}
 use Rattle.ringplan.proofs.plan.Goals as goal
 
-pub returns-then-servers-gt-MOST_SERVERS : goal.returns-then-servers-gt-MOST_SERVERS
-returns-then-servers-gt-MOST_SERVERS c =
-    let p = c.args in
-    planned-none p.servers.now (in_state 1 p.servers.now p.states.now) _ (omega arith) c.blank_plan-plan.ensures
-
-pub loop-i-init : goal.loop-i-init
-loop-i-init c =
-    let p = c.args in
-    let e = c.working-at_work.ensures in (
-      ready p.servers.now p.states.now c.arrange-order.result c.working-at_work.result.keys c.working-at_work.result.held (omega arith) (λ j. omega (arith, c.type_inv.servers j)) (search rules) e.1.0 e.0 e.1.1 c.arrange-order.ensures,
-      search rules,
-      laid_none p.servers.now (in_state 1 p.servers.now p.states.now) c.blank_plan-plan.result c.blank_plan-plan.ensures,
-    )
+pub bounds-plan-i : goal.bounds-plan-i
+bounds-plan-i c = omega (arith, as_many c.args.servers.now c.arrange-order.result.now c.arrange-order.ensures)
 
 pub loop-i-preserved : goal.loop-i-preserved
 loop-i-preserved c =
     let p = c.args in (
-      c.loop-i.invariant.0,
       search rules,
-      laid_more p.servers.now (in_state 1 p.servers.now p.states.now) c.arrange-order.result c.working-at_work.result.keys c.working-at_work.result.held c.loop-i.plan c.loop-i.i c.entry_for.result (omega arith) c.loop-i.invariant.0 c.entry_for.ensures c.loop-i.invariant.2,
+      laid_more p.servers.now p.states.now c.arrange-order.result.now c.working-working.result.now c.loop-i.plan c.loop-i.i c.entry_for.result
+          c.if-servers-le-MOST_SERVERS.true c.loop-i-test.true (λ j. omega (arith, c.type_inv.servers j)) c.arrange-order.ensures c.working-working.ensures
+          c.entry_for.ensures c.loop-i.invariant.1,
     )
 
-pub returns : goal.returns
-returns c =
+pub returns-after-loop-i : goal.returns-after-loop-i
+returns-after-loop-i c =
     let p = c.args in
-    laid_done p.servers.now (in_state 1 p.servers.now p.states.now) c.loop-i.plan c.loop-i.i c.loop-i.invariant.0.small (omega arith) c.loop-i.invariant.2
+    laid_done p.servers.now (in_state 1 p.servers.now p.states.now) c.loop-i.plan c.loop-i.i c.if-servers-le-MOST_SERVERS.true
+    (omega (arith, as_many p.servers.now c.arrange-order.result.now c.arrange-order.ensures)) c.loop-i.invariant.1
+
+pub returns-else-servers-le-MOST_SERVERS : goal.returns-else-servers-le-MOST_SERVERS
+returns-else-servers-le-MOST_SERVERS c =
+    let p = c.args in
+    let e = c.default-plan.ensures in
+    let zeros = entry_blank c.default-plan.result e.0 e.1.0 e.1.1 in
+    planned-none p.servers.now (in_state 1 p.servers.now p.states.now) _ (omega arith) (ap (λ (e : Entry). replicate 64 e) zeros)

@@ -1,17 +1,16 @@
+use mathlib.Core.Path.{refl}
 use native.Mathlib.Omega.{arith}
 use Rattle.ringplan.proofs.Keys.{nearing_none, nearing_more, nearing_done}
-use borrow.Author.Rules.{rules}
 use Rattle.ringplan.proofs.substitute.Goals as goal
 
-pub loop-i-init : goal.loop-i-init
-loop-i-init c = (search rules, nearing_none _ _ _ c.none_yet-best.ensures)
+pub loop-key-init : goal.loop-key-init
+loop-key-init c = nearing_none c.args.working.now c.args.point
 
-pub loop-i-preserved : goal.loop-i-preserved
-loop-i-preserved c =
+pub loop-key-preserved : goal.loop-key-preserved
+loop-key-preserved c =
     let p = c.args in
-    (search rules, nearing_more p.working.now p.point c.loop-i.best c.loop-i.i c.loop-i.invariant.1 c.position_of.result c.server_of.result c.distance-distance.result c.keep_nearer-best.result (omega arith) c.position_of.ensures c.distance-distance.ensures c.server_of.ensures c.keep_nearer-best.ensures)
+    let at = c.loop-key in
+    nearing_more p.working.now p.point at.best at.key-index at.invariant _ c.position_of.result c.server_of-server.result c.distance-measure.result c.keep.result (omega arith) refl c.position_of.ensures c.distance-measure.ensures c.server_of-server.ensures c.keep.ensures
 
 pub returns : goal.returns
-returns c =
-    let p = c.args in
-    nearing_done p.working.now p.point c.loop-i.best c.loop-i.i c.loop-i.invariant.1 (omega arith)
+returns c = nearing_done c.args.working.now c.args.point c.loop-key.best c.loop-key.key-index c.loop-key.invariant (omega arith)

@@ -1,11 +1,6 @@
--- `ringplan::substitute` meets its contract.
-use Prim.Native.Nat.{◌≤◌, ◌-◌}
-use lib.ListN.{length}
+-- What the servers from the index on make of the best so far is the best of them all.
 use Rattle.ringplan.proofs.Keys.{Nearing}
 use Rattle.ringplan.proofs.substitute.Given as goal
 
-abbrev pub invariant-loop-i : goal.invariant-loop-i
-invariant-loop-i l = (l.i ≤ length l.working) × Nearing l.working l.point l.best l.i
-
-abbrev pub decreases-loop-i : goal.decreases-loop-i
-decreases-loop-i l = length l.working - l.i
+abbrev pub invariant-loop-key : goal.invariant-loop-key
+invariant-loop-key l = Nearing l.working l.point l.best l.key-index

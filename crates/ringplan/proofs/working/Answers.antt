@@ -1,29 +1,20 @@
-use Prim.Native.Nat.{◌≤◌, ◌<◌}
-use native.Mathlib.Omega.{arith}
-use lib.ListN.{length}
-use Rattle.ringplan.proofs.Scans.{collect_here, collect_other, collect_end, collect_short}
+use Rattle.ringplan.proofs.Scans.{collect_here, collect_other, collect_end}
 use Rattle.ringplan.proofs.working.Goals as goal
-use Rattle.ringplan.proofs.working.Goals.{then-states-i-eq-WORKING, else-states-i-eq-WORKING}
 
-pub returns-then-states-i : goal.returns-then-states-i
-returns-then-states-i c =
+pub loop-server-preserved-then-state-eq-WORKING : goal.loop-server-preserved-then-state-eq-WORKING
+loop-server-preserved-then-state-eq-WORKING c =
     let p = c.args in
-    (omega arith, (c.loop-i.invariant.sized, collect_short p.servers.now p.states.now c.loop-i.keys c.loop-i.n c.loop-i.i c.loop-i.invariant (omega arith)))
+    let at = c.loop-server in
+    collect_here p.servers.now p.states.now at.keys at.held at.server-iterator c.next.new.self c.next.result c.next.ensures.steps at.invariant _ c.in-Some.is c.key.result c.key.ensures c.if-state-eq-WORKING.true
 
-pub loop-i-preserved : goal.loop-i-preserved
-loop-i-preserved c =
+pub loop-server-preserved : goal.loop-server-preserved
+loop-server-preserved c =
     let p = c.args in
-    let small : length p.servers.now ≤ 64 = omega arith in
-    let h : c.loop-i.i < length p.servers.now = omega arith in
-    let g : c.loop-i.i < length p.states.now = omega arith in
-    elim c.if-states-i-eq-WORKING.branch [
-      | then-states-i-eq-WORKING w ↦
-          rw (w.keys-is, w.n-is) (collect_here p.servers.now p.states.now c.loop-i.keys c.loop-i.n c.loop-i.i c.loop-i.invariant w.key.result w.key.ensures small h g w.if-states-i-eq-WORKING.true)
-      | else-states-i-eq-WORKING w ↦
-          rw (w.keys-is, w.n-is) (collect_other p.servers.now p.states.now c.loop-i.keys c.loop-i.n c.loop-i.i c.loop-i.invariant h g w.if-states-i-eq-WORKING.false)
-    ]
+    let at = c.loop-server in
+    collect_other p.servers.now p.states.now at.keys at.held at.server-iterator c.next.new.self c.next.result c.next.ensures.steps at.invariant _ c.in-Some.is c.if-state-eq-WORKING.false
 
 pub returns : goal.returns
 returns c =
     let p = c.args in
-    (omega arith, (c.loop-i.invariant.sized, collect_end p.servers.now p.states.now c.loop-i.keys c.loop-i.n c.loop-i.i c.loop-i.invariant (omega arith)))
+    let at = c.loop-server in
+    collect_end p.servers.now p.states.now at.keys at.held at.server-iterator c.next.new.self c.next.result c.next.ensures.steps at.invariant c.in-None.is

@@ -1,11 +1,6 @@
--- `ringplan::working` meets its contract.
-use Prim.Native.Nat.{◌-◌}
-use lib.ListN.{length}
+-- The keys of those that work, of the servers met so far, stand in the first `held` places.
 use Rattle.ringplan.proofs.Scans.{Collecting}
 use Rattle.ringplan.proofs.working.Given as goal
 
-abbrev pub invariant-loop-i : goal.invariant-loop-i
-invariant-loop-i l = Collecting l.servers l.states l.keys l.n l.i
-
-abbrev pub decreases-loop-i : goal.decreases-loop-i
-decreases-loop-i l = length l.servers - l.i
+abbrev pub invariant-loop-server : goal.invariant-loop-server
+invariant-loop-server l = Collecting l.servers l.states l.keys l.held l.server-iterator
