@@ -1,14 +1,59 @@
-// The answers that the parts of the engine give: refused, accepted, or a change taken; and a reply in numbers.
+// The answers that the parts of the engine give: refused, or accepted with what that comes to; and a reply in numbers.
 
 #![tactic(auto)]
 
 ghost use Rattle.std.specs.Prelude.{◌≡◌, List, ℕ};
-ghost use Rattle.rules.specs.Rules.{refused as refused-by, taken as taken-by, state_with};
+ghost use Rattle.roster.specs.declared.Roster.{Roster};
+ghost use Rattle.rules.specs.declared.Reply.TheVariants.{Accepted};
+ghost use Rattle.rules.specs.Rules.{taken as taken-by, state_with};
 ghost use Rattle.rules.specs.Answer.{answer_of};
-ghost use Rattle.answers.specs.Reacting.{reacted, replied, NumbersOf};
+ghost use Rattle.answers.specs.Reacting.{done_as, NumbersOf};
 
 use roster::Roster;
 use rules::Reply;
+
+// The facts of an accepted event: the server, for a packet, the mark, and how many used records were read. Roster changes and configure
+// have zeros.
+#[derive(Clone, Copy, Default)]
+pub struct Facts {
+    pub server: u32,
+    pub mark: u8,
+    pub reads: usize,
+}
+
+impl From<Facts> for Reply {
+    ghost from_gives = { λ facts reply. reply ≡ Accepted facts.server facts.mark facts.reads };
+
+    fn from(facts: Facts) -> Reply {
+        let Facts {
+            server,
+            mark,
+            reads,
+        } = facts;
+        Reply::Accepted {
+            server,
+            mark,
+            reads,
+        }
+    }
+}
+
+// What an accepted event comes to: its facts, and whether the ring is drawn anew. The roster is changed where it stands.
+#[derive(Clone, Copy)]
+pub struct Done {
+    pub facts: Facts,
+    pub redraw: bool,
+}
+
+// An accepted roster change or configure: server, mark and reads are 0.
+pub fn taken(redraw: bool) -> Done
+    ensures { (t rows flags : List ℕ) (r : Roster) → done_as result t rows flags r ≡ taken-by redraw (state_with t rows flags r) }
+{
+    Done {
+        facts: Facts::default(),
+        redraw,
+    }
+}
 
 // What the engine hands back: the answer, the roster afterwards, and whether the ring is drawn anew.
 #[derive(Clone, Copy)]
@@ -18,45 +63,9 @@ pub struct Reaction {
     pub redraw: bool,
 }
 
-// A refusal: nothing changes.
-pub fn refused(number: u8, r: Roster) -> Reaction
-    ensures { (t rows flags : List ℕ) → reacted result t rows flags ≡ refused-by number (state_with t rows flags r) }
-{
-    Reaction {
-        reply: Reply::Refused(number),
-        roster: r,
-        redraw: false,
-    }
-}
-
-// A reply to a packet or an end: the roster stays.
-pub fn stays(reply: Reply, r: Roster) -> Reaction
-    ensures { (t rows flags : List ℕ) → reacted result t rows flags ≡ replied reply t rows flags r }
-{
-    Reaction {
-        reply: reply,
-        roster: r,
-        redraw: false,
-    }
-}
-
-// An accepted roster change or configure: server, mark and reads are 0.
-pub fn taken(next: Roster, redraw: bool) -> Reaction
-    ensures { (t rows flags : List ℕ) → reacted result t rows flags ≡ taken-by redraw (state_with t rows flags next) }
-{
-    Reaction {
-        reply: Reply::Accepted {
-            server: 0,
-            mark: 0,
-            reads: 0,
-        },
-        roster: next,
-        redraw: redraw,
-    }
-}
-
 // A reply in the document's numbers: the refusal (0 where it was accepted), the server, the mark, the number of records read.
-#[derive(Clone, Copy)]
+// Stays (1): these are the numbers of a session's line, in which 0 says that an event was accepted.
+#[derive(Clone, Copy, Default)]
 pub struct ReplyNumbers {
     pub refusal: u8,
     pub server: u32,
@@ -65,25 +74,25 @@ pub struct ReplyNumbers {
 }
 
 // The numbers of a reply, as a line prints them.
-pub fn numbers(reply: Reply) -> ReplyNumbers
-    ensures { NumbersOf (answer_of reply) result }
-{
-    match reply {
-        Reply::Accepted {
-            server,
-            mark,
-            reads,
-        } => ReplyNumbers {
-            refusal: 0,
-            server: server,
-            mark: mark,
-            reads: reads,
-        },
-        Reply::Refused(number) => ReplyNumbers {
-            refusal: number,
-            server: 0,
-            mark: 0,
-            reads: 0,
-        },
+impl From<Reply> for ReplyNumbers {
+    ghost from_gives = { λ reply numbers. NumbersOf (answer_of reply) numbers };
+
+    fn from(reply: Reply) -> ReplyNumbers {
+        match reply {
+            Reply::Accepted {
+                server,
+                mark,
+                reads,
+            } => ReplyNumbers {
+                refusal: 0,
+                server,
+                mark,
+                reads,
+            },
+            Reply::Refused(refusal) => ReplyNumbers {
+                refusal,
+                ..Default::default()
+            },
+        }
     }
 }

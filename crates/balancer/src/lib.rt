@@ -11,6 +11,7 @@ use roster::Roster;
 use rules::Outcome;
 
 // Does what an event record asks, or refuses it by its number and changes nothing.
+// Stays (5): the public face is lent its buffers one by one; so too in `start`.
 pub fn event(
     record: &[u8],
     table: &mut [u8],

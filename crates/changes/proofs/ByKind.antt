@@ -2,7 +2,7 @@
 use Prim.Native.Nat.{ℕ, ◌≤◌, ◌<◌}
 use mathlib.Core.Bool.{Bool, true, false}
 use mathlib.Core.List.{List}
-use mathlib.Core.Path.{◌≡◌, refl, sym}
+use mathlib.Core.Path.{◌≡◌, refl, sym, ap, ◌∙◌}
 use lib.Dec.{eqb}
 use borrow.Author.Tests.{eq-eqb, ne_eqb, le-leb, lt-leb}
 use Rattle.ranking.specs.declared.Pick.{Pick}
@@ -10,62 +10,60 @@ use Rattle.settings.specs.declared.Settings.{Settings}
 use Rattle.roster.specs.declared.Roster.{Roster}
 use Rattle.roster.specs.Roster.{working_set, horizon, state_of, added_working, removed_working, added_horizon, removed_horizon}
 use Rattle.event.specs.Event.{request_by}
-use Rattle.event.specs.declared.Ask.{Ask}
-use Rattle.event.specs.declared.Ask.TheVariants.{End, AddWorking, RemoveWorking, AddHorizon, RemoveHorizon, Configure, Refused}
+use Rattle.event.specs.declared.Event.{Event}
+use Rattle.event.specs.declared.Event.TheVariants.{End, AddWorking, RemoveWorking, AddHorizon, RemoveHorizon, Configure}
 use Rattle.rows.specs.Rows.{filled}
 use Rattle.table.specs.Table.{Finding, used, tag_at, half_closed, removed, removed_server}
 use Rattle.rules.specs.Answer.{accepts}
 use Rattle.rules.proofs.Ends.{end-first, end_next, end-nothing}
 use Rattle.rules.specs.Rules.{state_with, State, Change, judged, barred, effect, refused, answered, taken, changed, configured, refilled}
 
-module _ (key t rows flags : List ℕ) (found : Finding) (pick : Pick) (r : Roster) where
+module _ (t rows flags : List ℕ) (found : Finding) (pick : Pick) (r : Roster) where
   abbrev st : State
   st = state_with t rows flags r
 
   -- that is what the rules make of it, from this state
-  abbrev Due : Change → Ask → Type 0
-  Due c ask = c ≡ judged (request_by ask key) found pick st
-
-  pub refused_as : (n : ℕ) → Due (refused n st) (Refused n)
-  unfolding judged
-  refused_as n = refl
+  abbrev Due : Change → Event → Type 0
+  Due c e = c ≡ judged (request_by e) found pick st
 
   module _ (s : ℕ) where
-    pub add-working_4 : (state_of s r ≡ 2 → ⊥) → Due (refused 4 st) (AddWorking s)
+    pub add_working_4 : (state_of s r ≡ 2 → ⊥) → Due (refused 4 st) (AddWorking s)
     unfolding judged barred
-    add-working_4 n = rw (ne_eqb (state_of s r) 2 n)
+    add_working_4 n = rw (ne_eqb (state_of s r) 2 n)
 
-    pub add-working_done : state_of s r ≡ 2 → Due (changed (added_working s r) t st) (AddWorking s)
+    pub add_working_done : (c : Change) (next : Roster) → state_of s r ≡ 2 → next ≡ added_working s r → c ≡ changed next t st → Due c (AddWorking s)
     unfolding judged barred effect
-    add-working_done e = rw (eq-eqb (state_of s r) 2 e)
+    add_working_done c next e n d = rw (eq-eqb (state_of s r) 2 e) (d ∙ ap (λ (x : Roster). changed x t st) n)
 
     pub remove_working_5 : (state_of s r ≡ 1 → ⊥) → Due (refused 5 st) (RemoveWorking s)
     unfolding judged barred
     remove_working_5 n = rw (ne_eqb (state_of s r) 1 n)
 
-    pub remove_working_done : state_of s r ≡ 1 → Due (changed (removed_working s r) (removed_server s t) st) (RemoveWorking s)
+    pub remove_working_done : (c : Change) (next : Roster) (t' : List ℕ) → state_of s r ≡ 1 → next ≡ removed_working s r → t' ≡ removed_server s t
+        → c ≡ changed next t' st → Due c (RemoveWorking s)
     unfolding judged barred effect
-    remove_working_done e = rw (eq-eqb (state_of s r) 1 e)
+    remove_working_done c next t' e n g d = rw (eq-eqb (state_of s r) 1 e) (d ∙ ap (λ (x : Roster). changed x t' st) n ∙ ap (λ (x : List ℕ). changed (removed_working s r) x st) g)
 
-    pub add-horizon_3 : (state_of s r ≡ 0 → ⊥) → Due (refused 3 st) (AddHorizon s)
+    pub add_horizon_3 : (state_of s r ≡ 0 → ⊥) → Due (refused 3 st) (AddHorizon s)
     unfolding judged barred
-    add-horizon_3 n = rw (ne_eqb (state_of s r) 0 n)
+    add_horizon_3 n = rw (ne_eqb (state_of s r) 0 n)
 
-    pub add-horizon_6 : state_of s r ≡ 0 → 64 ≤ r.held → Due (refused 6 st) (AddHorizon s)
+    pub add_horizon_6 : state_of s r ≡ 0 → 64 ≤ r.held → Due (refused 6 st) (AddHorizon s)
     unfolding judged barred
-    add-horizon_6 e h = rw (eq-eqb (state_of s r) 0 e, le-leb 64 r.held h)
+    add_horizon_6 e h = rw (eq-eqb (state_of s r) 0 e, le-leb 64 r.held h)
 
-    pub add-horizon_done : state_of s r ≡ 0 → r.held < 64 → Due (changed (added_horizon s r) t st) (AddHorizon s)
+    pub add_horizon_done : (c : Change) (next : Roster) → state_of s r ≡ 0 → r.held < 64 → next ≡ added_horizon s r → c ≡ changed next t st
+        → Due c (AddHorizon s)
     unfolding judged barred effect
-    add-horizon_done e h = rw (eq-eqb (state_of s r) 0 e, lt-leb 64 r.held h)
+    add_horizon_done c next e h n d = rw (eq-eqb (state_of s r) 0 e, lt-leb 64 r.held h) (d ∙ ap (λ (x : Roster). changed x t st) n)
 
     pub remove_horizon_4 : (state_of s r ≡ 2 → ⊥) → Due (refused 4 st) (RemoveHorizon s)
     unfolding judged barred
     remove_horizon_4 n = rw (ne_eqb (state_of s r) 2 n)
 
-    pub remove_horizon_done : state_of s r ≡ 2 → Due (changed (removed_horizon s r) t st) (RemoveHorizon s)
+    pub remove_horizon_done : (c : Change) (next : Roster) → state_of s r ≡ 2 → next ≡ removed_horizon s r → c ≡ changed next t st → Due c (RemoveHorizon s)
     unfolding judged barred effect
-    remove_horizon_done e = rw (eq-eqb (state_of s r) 2 e)
+    remove_horizon_done c next e n d = rw (eq-eqb (state_of s r) 2 e) (d ∙ ap (λ (x : Roster). changed x t st) n)
 
   module _ (c : Settings) where
     pub configure_10_held : (r.held ≡ 0 → ⊥) → Due (refused 10 st) (Configure c)
@@ -83,33 +81,33 @@ module _ (key t rows flags : List ℕ) (found : Finding) (pick : Pick) (r : Rost
 module _ (key t rows flags : List ℕ) (pick : Pick) (r : Roster) (n : ℕ) where
   pub end_8 : tag_at n t ≡ 1
       → answered (accepts 0 8 n) (half_closed n t) (state_with t rows flags r)
-      ≡ judged (request_by End key) (record { found = true; reads = n }) pick (state_with t rows flags r)
+      ≡ judged (request_by (End key)) (record { found = true; reads = n }) pick (state_with t rows flags r)
   unfolding judged barred effect
   end_8 e = sym (end-first (record { found = true; reads = n }) (state_with t rows flags r) refl e)
 
   pub end_5 : (tag_at n t ≡ 1 → ⊥)
       → answered (accepts 0 5 n) (removed n t) (state_with t rows flags r)
-      ≡ judged (request_by End key) (record { found = true; reads = n }) pick (state_with t rows flags r)
+      ≡ judged (request_by (End key)) (record { found = true; reads = n }) pick (state_with t rows flags r)
   unfolding judged barred effect
   end_5 e = sym (end_next (record { found = true; reads = n }) (state_with t rows flags r) refl e)
 
   pub end_6 : answered (accepts 0 6 n) t (state_with t rows flags r)
-      ≡ judged (request_by End key) (record { found = false; reads = n }) pick (state_with t rows flags r)
+      ≡ judged (request_by (End key)) (record { found = false; reads = n }) pick (state_with t rows flags r)
   unfolding judged barred effect
   end_6 = sym (end-nothing (record { found = false; reads = n }) (state_with t rows flags r) refl)
 
 -- an accepted roster change, by the method
 module _ (next r₀ : Roster) (t t₀ rows flags : List ℕ) where
-  pub changed-filled : (rows' flags' : List ℕ) → next.settings.method ≡ 3
+  pub changed_filled : (rows' flags' : List ℕ) → next.settings.method ≡ 3
       → record { servers = rows'; flags = flags' } ≡ filled next.settings.rows (working_set next) (horizon next) (record { servers = rows; flags = flags })
       → taken false (state_with t rows' flags' next) ≡ changed next t (state_with t₀ rows flags r₀)
   unfolding refilled
-  changed-filled rows' flags' e f =
+  changed_filled rows' flags' e f =
       let m : eqb next.settings.method 2 ≡ false = rw e in
       rw (m, eq-eqb next.settings.method 3 e)
       (λ i. taken false (state_with t (f i).servers (f i).flags next))
 
-  pub changed-plain : (b : Bool) → (next.settings.method ≡ 3 → ⊥) → b ≡ eqb next.settings.method 2
+  pub changed_plain : (b : Bool) → (next.settings.method ≡ 3 → ⊥) → b ≡ eqb next.settings.method 2
       → taken b (state_with t rows flags next) ≡ changed next t (state_with t₀ rows flags r₀)
   unfolding refilled
-  changed-plain b n e = rw (ne_eqb next.settings.method 3 n, e)
+  changed_plain b n e = rw (ne_eqb next.settings.method 3 n, e)

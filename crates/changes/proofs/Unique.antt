@@ -5,9 +5,11 @@ use mathlib.Core.List.{[]}
 use Rattle.ranking.specs.Ranking.{pick_of}
 use Rattle.roster.specs.Roster.{empty_roster}
 use Rattle.table.specs.Table.{Finding}
-use Rattle.rules.specs.declared.Reply.{Reply}
-use Rattle.answers.specs.declared.Reaction.{Reaction}
-use Rattle.answers.proofs.Unique.{SameReaction, SameReply, reaction_unique, reply_unique}
+use Rattle.std.specs.Prelude.{Result, ◌≡◌}
+use Rattle.rules.specs.declared.Refusal.{Refusal}
+use Rattle.answers.specs.declared.Facts.{Facts}
+use Rattle.answers.specs.declared.Done.{Done}
+use Rattle.answers.proofs.Unique.{SameDone, done_unique, served_unique}
 use Rattle.changes.proofs.end.Reads.{Learnt as end-promise}
 use Rattle.changes.proofs.add_working.Reads.{Learnt as add-working-promise}
 use Rattle.changes.proofs.remove_working.Reads.{Learnt as remove-working-promise}
@@ -18,28 +20,28 @@ use Rattle.changes.proofs.configure.Reads.{Learnt as configure-promise}
 abbrev none : Finding
 none = record { found = false; reads = 0 }
 
-pub end_unique : (κs : _) (a : _) (v v' : Reply) (e e' : _) → end-promise κs a v e → end-promise κs a v' e'
-    → SameReply v v' e.1.0.now e'.1.0.now
+pub end_unique : (κs : _) (a : _) (v v' : Facts) (e e' : _) → end-promise κs a v e → end-promise κs a v' e'
+    → (v ≡ v') × (e.1.0.now ≡ e'.1.0.now)
 end_unique κs a v v' e e' p q =
-    reply_unique v v' _ _ [] [] empty_roster _ (p [] (pick_of 0 false) [] [] empty_roster) (q [] (pick_of 0 false) [] [] empty_roster)
+    served_unique v v' _ _ [] [] empty_roster _ (p [] (pick_of 0 false) [] [] empty_roster) (q [] (pick_of 0 false) [] [] empty_roster)
 
-pub add-working_unique : (κs : _) (a : _) (v v' : Reaction) (e e' : _) → add-working-promise κs a v e → add-working-promise κs a v' e'
-    → SameReaction v v' [] [] e.1.0.now e'.1.0.now e.1.1.0.now e'.1.1.0.now
-add-working_unique κs a v v' e e' p q = reaction_unique v v' _ _ _ _ _ _ _ (p [] [] none (pick_of 0 false)) (q [] [] none (pick_of 0 false))
+pub add-working_unique : (κs : _) (a : _) (v v' : Result Done Refusal) (e e' : _) → add-working-promise κs a v e → add-working-promise κs a v' e'
+    → SameDone v v' [] [] e.1.0.now e'.1.0.now e.1.1.0.now e'.1.1.0.now e.1.1.1.0.now e'.1.1.1.0.now
+add-working_unique κs a v v' e e' p q = done_unique v v' _ _ _ _ _ _ _ _ _ (p [] none (pick_of 0 false)) (q [] none (pick_of 0 false))
 
-pub add-horizon_unique : (κs : _) (a : _) (v v' : Reaction) (e e' : _) → add-horizon-promise κs a v e → add-horizon-promise κs a v' e'
-    → SameReaction v v' [] [] e.1.0.now e'.1.0.now e.1.1.0.now e'.1.1.0.now
-add-horizon_unique κs a v v' e e' p q = reaction_unique v v' _ _ _ _ _ _ _ (p [] [] none (pick_of 0 false)) (q [] [] none (pick_of 0 false))
+pub add-horizon_unique : (κs : _) (a : _) (v v' : Result Done Refusal) (e e' : _) → add-horizon-promise κs a v e → add-horizon-promise κs a v' e'
+    → SameDone v v' [] [] e.1.0.now e'.1.0.now e.1.1.0.now e'.1.1.0.now e.1.1.1.0.now e'.1.1.1.0.now
+add-horizon_unique κs a v v' e e' p q = done_unique v v' _ _ _ _ _ _ _ _ _ (p [] none (pick_of 0 false)) (q [] none (pick_of 0 false))
 
-pub remove_horizon_unique : (κs : _) (a : _) (v v' : Reaction) (e e' : _) → remove-horizon-promise κs a v e → remove-horizon-promise κs a v' e'
-    → SameReaction v v' [] [] e.1.0.now e'.1.0.now e.1.1.0.now e'.1.1.0.now
-remove_horizon_unique κs a v v' e e' p q = reaction_unique v v' _ _ _ _ _ _ _ (p [] [] none (pick_of 0 false)) (q [] [] none (pick_of 0 false))
+pub remove_horizon_unique : (κs : _) (a : _) (v v' : Result Done Refusal) (e e' : _) → remove-horizon-promise κs a v e → remove-horizon-promise κs a v' e'
+    → SameDone v v' [] [] e.1.0.now e'.1.0.now e.1.1.0.now e'.1.1.0.now e.1.1.1.0.now e'.1.1.1.0.now
+remove_horizon_unique κs a v v' e e' p q = done_unique v v' _ _ _ _ _ _ _ _ _ (p [] none (pick_of 0 false)) (q [] none (pick_of 0 false))
 
-pub remove_working_unique : (κs : _) (a : _) (v v' : Reaction) (e e' : _) → remove-working-promise κs a v e → remove-working-promise κs a v' e'
-    → SameReaction v v' e.1.0.now e'.1.0.now e.1.1.0.now e'.1.1.0.now e.1.1.1.0.now e'.1.1.1.0.now
-remove_working_unique κs a v v' e e' p q = reaction_unique v v' _ _ _ _ _ _ _ (p [] none (pick_of 0 false)) (q [] none (pick_of 0 false))
+pub remove_working_unique : (κs : _) (a : _) (v v' : Result Done Refusal) (e e' : _) → remove-working-promise κs a v e → remove-working-promise κs a v' e'
+    → SameDone v v' e.1.0.now e'.1.0.now e.1.1.0.now e'.1.1.0.now e.1.1.1.0.now e'.1.1.1.0.now e.1.1.1.1.0.now e'.1.1.1.1.0.now
+remove_working_unique κs a v v' e e' p q = done_unique v v' _ _ _ _ _ _ _ _ _ (p none (pick_of 0 false)) (q none (pick_of 0 false))
 
 -- `configure` only reads the table
-pub configure_unique : (κs : _) (a : _) (v v' : Reaction) (e e' : _) → configure-promise κs a v e → configure-promise κs a v' e'
-    → SameReaction v v' a.1.0.now a.1.0.now e.1.1.0.now e'.1.1.0.now e.1.1.1.0.now e'.1.1.1.0.now
-configure_unique κs a v v' e e' p q = reaction_unique v v' _ _ _ _ _ _ _ (p [] none (pick_of 0 false)) (q [] none (pick_of 0 false))
+pub configure_unique : (κs : _) (a : _) (v v' : Result Done Refusal) (e e' : _) → configure-promise κs a v e → configure-promise κs a v' e'
+    → SameDone v v' a.1.0.now a.1.0.now e.1.1.0.now e'.1.1.0.now e.1.1.1.0.now e'.1.1.1.0.now e.1.1.1.1.0.now e'.1.1.1.1.0.now
+configure_unique κs a v v' e e' p q = done_unique v v' _ _ _ _ _ _ _ _ _ (p none (pick_of 0 false)) (q none (pick_of 0 false))

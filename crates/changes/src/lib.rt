@@ -5,63 +5,63 @@
 ghost use Rattle.std.specs.Prelude.{◌≡◌, List, ℕ};
 ghost use Rattle.ranking.specs.declared.Pick.{Pick};
 ghost use Rattle.event.specs.Event.{request_by};
-ghost use Rattle.event.specs.declared.Ask.TheVariants.{End, AddWorking, RemoveWorking, AddHorizon, RemoveHorizon, Configure};
+ghost use Rattle.event.specs.declared.Event.TheVariants.{End, AddWorking, RemoveWorking, AddHorizon, RemoveHorizon, Configure};
 ghost use Rattle.roster.specs.Roster.{working_set, horizon};
 ghost use Rattle.rows.specs.Rows.{Rows, filled};
 ghost use Rattle.table.specs.Table.{Finding, finding_of};
 ghost use Rattle.rules.specs.Rules.{state_with, changed, judged};
-ghost use Rattle.answers.specs.Reacting.{reacted, replied};
+ghost use Rattle.answers.specs.Reacting.{done_as, settled, served};
 
-use answers::Reaction;
+use answers::{Done, Facts};
 use roster::Roster;
-use rules::Reply;
+use rules::Refusal;
 use settings::Settings;
 use table::Found;
 
 // An end of connection: the first on the key's record half-closes it, the next takes it away.
 #[tactic(auto, using(crate::proofs::ByKind::end_8, crate::proofs::ByKind::end_5, crate::proofs::ByKind::end_6))]
-pub fn end(found: Found, table: &mut [u8]) -> Reply
+pub fn end(found: Found, table: &mut [u8]) -> Facts
     ensures { (key : List ℕ) (pick : Pick) (rows flags : List ℕ) (r : Roster)
-        → replied result table.new rows flags r
-        ≡ judged (request_by End key) (finding_of found) pick (state_with table.old rows flags r) }
+        → served result table.new rows flags r
+        ≡ judged (request_by (End key)) (finding_of found) pick (state_with table.old rows flags r) }
 {
     match found {
         Found::At(place) => {
             if table::tag_at(table, place) == table::NEW_TAG {
                 table::half_close(table, place);
-                return Reply::Accepted {
-                    server: 0,
+                return Facts {
                     mark: rules::RECORD_HALF_CLOSED,
                     reads: place,
+                    ..Facts::default()
                 };
             }
             table::remove(table, place);
-            Reply::Accepted {
-                server: 0,
+            Facts {
                 mark: rules::RECORD_REMOVED,
                 reads: place,
+                ..Facts::default()
             }
         }
-        Found::Nothing(used) => Reply::Accepted {
-            server: 0,
+        Found::Nothing(used) => Facts {
             mark: rules::NOTHING_TO_REMOVE,
             reads: used,
+            ..Facts::default()
         },
     }
 }
 
 // A roster change that is accepted: under method 3 the rows are filled for it, under method 2 the ring is to be drawn for it.
-fn alter(next: Roster, rows: &mut [u32], flags: &mut [u8]) -> Reaction
+fn alter(roster: Roster, rows: &mut [u32], flags: &mut [u8]) -> Done
     ensures { (t t₀ : List ℕ) (r₀ : Roster)
-        → reacted result t rows.new flags.new
-        ≡ changed next t (state_with t₀ rows.old flags.old r₀) }
+        → done_as result t rows.new flags.new roster
+        ≡ changed roster t (state_with t₀ rows.old flags.old r₀) }
 {
-    let settings = next.settings;
-    if settings.method == settings::ROW_TABLE {
-        fill(next, rows, flags);
-        return answers::taken(next, false);
+    let method = roster.settings.method;
+    if method == settings::ROW_TABLE {
+        fill(roster, rows, flags);
+        return answers::taken(false);
     }
-    answers::taken(next, settings.method == settings::RING)
+    answers::taken(method == settings::RING)
 }
 
 // Fills the rows for a roster's sets.
@@ -70,96 +70,114 @@ fn fill(r: Roster, rows: &mut [u32], flags: &mut [u8])
         ≡ filled r.settings.rows (working_set r) (horizon r) (record { servers = rows.old; flags = flags.old }) }
 {
     let n = roster::in_use(r.held);
-    let settings = r.settings;
-    let servers = r.servers;
-    let states = r.states;
-    rows::fill(rows, flags, settings.rows, &servers[..n], &states[..n]);
+    rows::fill(
+        rows,
+        flags,
+        r.settings.rows,
+        &r.servers[..n],
+        &r.states[..n],
+    );
 }
 
-// Add working: refused with 4 unless the server is in the horizon.
-pub fn add_working(server: u32, rows: &mut [u32], flags: &mut [u8], r: Roster) -> Reaction
-    ensures { (key t : List ℕ) (found : Finding) (pick : Pick)
-        → reacted result t rows.new flags.new
-        ≡ judged (request_by (AddWorking server) key) found pick (state_with t rows.old flags.old r) }
+// Add working: refused unless the server is in the horizon.
+#[tactic(auto, using(crate::proofs::ByKind::add_working_4))]
+pub fn add_working(
+    server: u32,
+    rows: &mut [u32],
+    flags: &mut [u8],
+    r: &mut Roster,
+) -> Result<Done, Refusal>
+    ensures { (t : List ℕ) (found : Finding) (pick : Pick)
+        → settled result t rows.new flags.new r.new
+        ≡ judged (request_by (AddWorking server)) found pick (state_with t rows.old flags.old r.old) }
 {
-    if roster::state_of(r, server) != sets::STANDBY {
-        return answers::refused(4, r);
+    if roster::state_of(*r, server) != sets::STANDBY {
+        return Err(Refusal::NotInHorizon);
     }
-    alter(roster::add_working(r, server), rows, flags)
+    *r = roster::add_working(*r, server);
+    Ok(alter(*r, rows, flags))
 }
 
-// Remove working: refused with 5 unless the server works. Every record that names it goes.
+// Remove working: refused unless the server works. Every record that names it goes.
+#[tactic(auto, using(crate::proofs::ByKind::remove_working_5))]
 pub fn remove_working(
     server: u32,
     table: &mut [u8],
     rows: &mut [u32],
     flags: &mut [u8],
-    r: Roster,
-) -> Reaction
-    ensures { (key : List ℕ) (found : Finding) (pick : Pick)
-        → reacted result table.new rows.new flags.new
-        ≡ judged (request_by (RemoveWorking server) key) found pick (state_with table.old rows.old flags.old r) }
+    r: &mut Roster,
+) -> Result<Done, Refusal>
+    ensures { (found : Finding) (pick : Pick)
+        → settled result table.new rows.new flags.new r.new
+        ≡ judged (request_by (RemoveWorking server)) found pick (state_with table.old rows.old flags.old r.old) }
 {
-    if roster::state_of(r, server) != sets::WORKING {
-        return answers::refused(5, r);
+    if roster::state_of(*r, server) != sets::WORKING {
+        return Err(Refusal::NotWorking);
     }
     table::remove_server(table, server);
-    alter(roster::remove_working(r, server), rows, flags)
+    *r = roster::remove_working(*r, server);
+    Ok(alter(*r, rows, flags))
 }
 
-// Add horizon: refused with 3 where the server is held already, with 6 where 64 are held.
-pub fn add_horizon(server: u32, rows: &mut [u32], flags: &mut [u8], r: Roster) -> Reaction
-    ensures { (key t : List ℕ) (found : Finding) (pick : Pick)
-        → reacted result t rows.new flags.new
-        ≡ judged (request_by (AddHorizon server) key) found pick (state_with t rows.old flags.old r) }
+// Add horizon: refused where the server is held already, or where 64 are held.
+#[tactic(auto, using(crate::proofs::ByKind::add_horizon_3, crate::proofs::ByKind::add_horizon_6))]
+pub fn add_horizon(
+    server: u32,
+    rows: &mut [u32],
+    flags: &mut [u8],
+    r: &mut Roster,
+) -> Result<Done, Refusal>
+    ensures { (t : List ℕ) (found : Finding) (pick : Pick)
+        → settled result t rows.new flags.new r.new
+        ≡ judged (request_by (AddHorizon server)) found pick (state_with t rows.old flags.old r.old) }
 {
-    if roster::state_of(r, server) != 0 {
-        return answers::refused(3, r);
+    if roster::state_of(*r, server) != 0 {
+        return Err(Refusal::HeldAlready);
     }
     if sets::MOST_SERVERS <= r.held {
-        return answers::refused(6, r);
+        return Err(Refusal::RosterFull);
     }
-    alter(roster::add_horizon(r, server), rows, flags)
+    *r = roster::add_horizon(*r, server);
+    Ok(alter(*r, rows, flags))
 }
 
-// Remove horizon: refused with 4 unless the server is in the horizon.
-pub fn remove_horizon(server: u32, rows: &mut [u32], flags: &mut [u8], r: Roster) -> Reaction
-    ensures { (key t : List ℕ) (found : Finding) (pick : Pick)
-        → reacted result t rows.new flags.new
-        ≡ judged (request_by (RemoveHorizon server) key) found pick (state_with t rows.old flags.old r) }
+// Stays (2): like `add_working` but for what is done to the roster; each promises `judged` of its own event, and a parameter is no plainer.
+// Remove horizon: refused unless the server is in the horizon.
+#[tactic(auto, using(crate::proofs::ByKind::remove_horizon_4))]
+pub fn remove_horizon(
+    server: u32,
+    rows: &mut [u32],
+    flags: &mut [u8],
+    r: &mut Roster,
+) -> Result<Done, Refusal>
+    ensures { (t : List ℕ) (found : Finding) (pick : Pick)
+        → settled result t rows.new flags.new r.new
+        ≡ judged (request_by (RemoveHorizon server)) found pick (state_with t rows.old flags.old r.old) }
 {
-    if roster::state_of(r, server) != sets::STANDBY {
-        return answers::refused(4, r);
+    if roster::state_of(*r, server) != sets::STANDBY {
+        return Err(Refusal::NotInHorizon);
     }
-    alter(roster::remove_horizon(r, server), rows, flags)
+    *r = roster::remove_horizon(*r, server);
+    Ok(alter(*r, rows, flags))
 }
 
-// Configure: refused with 10 unless roster and used part are empty. The rows it counts are zeroed.
+// Configure: refused unless roster and used part are empty. The rows it counts are zeroed.
+#[tactic(auto, using(crate::proofs::ByKind::configure_10_held, crate::proofs::ByKind::configure_10_used))]
 pub fn configure(
     settings: Settings,
     table: &[u8],
     rows: &mut [u32],
     flags: &mut [u8],
-    r: Roster,
-) -> Reaction
-    ensures { (key : List ℕ) (found : Finding) (pick : Pick)
-        → reacted result table.now rows.new flags.new
-        ≡ judged (request_by (Configure settings) key) found pick (state_with table.now rows.old flags.old r) }
+    r: &mut Roster,
+) -> Result<Done, Refusal>
+    ensures { (found : Finding) (pick : Pick)
+        → settled result table.now rows.new flags.new r.new
+        ≡ judged (request_by (Configure settings)) found pick (state_with table.now rows.old flags.old r.old) }
 {
-    if r.held != 0 {
-        return answers::refused(10, r);
-    }
-    if table::used(table) != 0 {
-        return answers::refused(10, r);
+    if r.held != 0 || table::used(table) != 0 {
+        return Err(Refusal::NotEmpty);
     }
     rows::clear(rows, flags, settings.rows);
-    let servers = r.servers;
-    let states = r.states;
-    let next = Roster {
-        servers: servers,
-        states: states,
-        held: r.held,
-        settings: settings,
-    };
-    answers::taken(next, false)
+    r.settings = settings;
+    Ok(answers::taken(false))
 }

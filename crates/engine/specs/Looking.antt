@@ -1,18 +1,19 @@
 -- How the engine is cut, so that it never sees the ring: what a look at the record finds before the ring is read, the reaction to it, and
 -- the ring drawn for the roster that the reaction hands back. `event_of` is put together from these (proofs/Whole.antt); no statement cites them.
-use Rattle.std.specs.Prelude.{ℕ, Bool, true, false, cond, not, List, eqb}
+use Rattle.std.specs.Prelude.{ℕ, Bool, true, false, cond, not, List, Option, Some, None, Result, Ok, Err, eqb}
 use Rattle.hash.specs.Hash.{F}
 use Rattle.roster.specs.declared.Roster.{Roster}
 use Rattle.roster.specs.Roster.{sound, held_servers, working_set}
-use Rattle.event.specs.declared.Ask.{Ask}
-use Rattle.event.specs.declared.Ask.TheVariants.{Refused}
-use Rattle.event.specs.Event.{Request, request_by, request_of, no_key, packet_kind, end_kind}
+use Rattle.event.specs.declared.Event.{Event}
+use Rattle.event.specs.Event.{Request, refused_by, request_by, request_of, packet_kind, end_kind}
 use Rattle.settings.specs.Settings.{by_ring}
 use Rattle.table.specs.Table.{Finding, find, finding_of}
 use Rattle.ring.specs.declared.Entry.{Entry}
 use Rattle.ring.specs.Ring.{overlaid}
 use Rattle.ringplan.specs.Plan.{planned}
 use Rattle.engine.specs.declared.Lookup.{Lookup}
+use Rattle.rules.specs.declared.Refusal.{Refusal}
+use Rattle.rules.specs.Answer.{number_of}
 use Rattle.rules.specs.Rules.{State, Change, is, lent_bar, admitted, judged, pick_by}
 
 -- the event, the key's record, F of the key, how many ring entries are to be searched, and whether what is lent has its lengths (9)
@@ -47,16 +48,18 @@ look_of sized e t r =
       sized = sized;
     }
 
--- a packet; a packet or an end
-abbrev pub asks_packet : Ask → Bool
-asks_packet a = is packet_kind (request_by a no_key)
-
-abbrev pub asks_of_key : Ask → Bool
-asks_of_key a = cond (asks_packet a) true (is end_kind (request_by a no_key))
+-- the key of a packet or an end
+abbrev pub key_asked : Request → Option (List ℕ)
+key_asked e = cond (is packet_kind e) (Some e.key) (cond (is end_kind e) (Some e.key) None)
 
 -- refusals 9 and 11 before anything is done; a packet's 11 is left to the packet
-unfoldable pub admitted_ask : Bool → Bool → Ask → Ask
-admitted_ask sized roster_sound a = cond sized (cond (asks_packet a) a (cond roster_sound a (Refused 11))) (Refused 9)
+unfoldable pub admitted_so_far : Bool → Bool → Request → Request
+admitted_so_far sized roster_sound e = admitted (lent_bar sized (cond (is packet_kind e) true roster_sound)) e
+
+-- an event that is admitted, or the refusal, in the document's numbers
+abbrev pub asked_by : Result Event Refusal → Request
+asked_by (Ok e) = request_by e
+asked_by (Err e) = refused_by (number_of e)
 
 -- a reaction to what a look found and to the ring's entry read: the event admitted (refusals 9 and 11) and judged
 abbrev pub react_of : Lookup → Entry → State → Change

@@ -7,24 +7,26 @@
 mod looking;
 
 ghost use Rattle.std.specs.Prelude.{◌≡◌, length, List, ℕ};
-ghost use Rattle.event.specs.Event.{event_in};
+ghost use Rattle.event.specs.Event.{request_of, event_in};
 ghost use Rattle.roster.specs.Roster.{sound as sound_of, held_servers, working_set};
 ghost use Rattle.ringplan.specs.Plan.{planned};
 ghost use Rattle.rules.specs.Rules.{state_with, world_with, StartPromise, sizes_right};
-ghost use Rattle.engine.specs.Looking.{look_of, lookup_facts, admitted_ask, react_of};
-ghost use Rattle.answers.specs.Reacting.{reacted};
+ghost use Rattle.engine.specs.Looking.{look_of, lookup_facts, admitted_so_far, asked_by, react_of};
+ghost use Rattle.answers.specs.Reacting.{reacted, settled};
 
-use answers::Reaction;
-use event::{Ask, Event};
+use answers::{Done, Reaction};
+use event::{Event, Fault};
+use packets::Asked;
 use ring::Entry;
 use roster::Roster;
-use rules::{Outcome, Reply};
+use rules::{Outcome, Refusal, Reply};
 use table::Found;
 
 // What a look at an event record finds before the ring is read.
+// Stays (1): where no entry is wanted, f and places are 0, and nobody looks at what `ring::read` gives then; an Option would be asked twice.
 #[derive(Clone, Copy)]
 pub struct Lookup {
-    pub event: Event,
+    pub event: Result<Event, Fault>,
     pub found: Found,
     pub f: u32,
     pub places: usize,
@@ -44,8 +46,7 @@ pub fn look(
         ≡ look_of (sizes_right (length table.now) rows flags ring) (event_in bytes.now) table.now roster }
 {
     let sized = looking::sizes_right(table.len(), rows, flags, ring);
-    let event = event::read(bytes);
-    looking::seek(event, table, sized, roster)
+    looking::seek(event::read(bytes), table, sized, roster)
 }
 
 // Does what the event asks to table, rows and flags, or refuses it; `spot` is the ring's entry that was read for it.
@@ -55,45 +56,75 @@ pub fn react(
     table: &mut [u8],
     rows: &mut [u32],
     flags: &mut [u8],
-    roster: Roster,
+    mut roster: Roster,
 ) -> Reaction
     ensures { reacted result table.new rows.new flags.new
         ≡ react_of seen spot (state_with table.old rows.old flags.old roster) }
 {
-    let event = seen.event;
-    let asked = event.ask;
-    let ask = admit(asked, seen.sized, roster);
-    let key = event.key;
-    let found = seen.found;
-    match ask {
-        Ask::Packet => {
-            let reply = packets::packet(key, found, seen.f, spot, table, rows, flags, roster);
-            answers::stays(reply, roster)
-        }
-        Ask::End => answers::stays(changes::end(found, table), roster),
-        Ask::AddWorking(server) => changes::add_working(server, rows, flags, roster),
-        Ask::RemoveWorking(server) => changes::remove_working(server, table, rows, flags, roster),
-        Ask::AddHorizon(server) => changes::add_horizon(server, rows, flags, roster),
-        Ask::RemoveHorizon(server) => changes::remove_horizon(server, rows, flags, roster),
-        Ask::Configure(settings) => changes::configure(settings, table, rows, flags, roster),
-        Ask::Refused(number) => answers::refused(number, roster),
+    match settle(seen, spot, table, rows, flags, &mut roster) {
+        Ok(done) => Reaction {
+            reply: done.facts.into(),
+            roster,
+            redraw: done.redraw,
+        },
+        Err(refusal) => Reaction {
+            reply: refusal.into(),
+            roster,
+            redraw: false,
+        },
     }
 }
 
-// What is asked, or its refusal by 9 or 11. A packet's roster is tested in `packets::packet`, where its lists are lent.
-fn admit(ask: Ask, sized: bool, roster: Roster) -> Ask
-    ensures { result ≡ admitted_ask sized (sound_of roster) ask }
+// What the event comes to, or why it is refused: then nothing has changed.
+fn settle(
+    seen: Lookup,
+    spot: Entry,
+    table: &mut [u8],
+    rows: &mut [u32],
+    flags: &mut [u8],
+    roster: &mut Roster,
+) -> Result<Done, Refusal>
+    ensures { settled result table.new rows.new flags.new roster.new
+        ≡ react_of seen spot (state_with table.old rows.old flags.old roster.old) }
+{
+    match admit(seen.event, seen.sized, roster)? {
+        Event::Packet(key) => {
+            let asked = Asked {
+                key,
+                found: seen.found,
+                f: seen.f,
+                spot,
+            };
+            let facts = packets::packet(asked, table, rows, flags, roster)?;
+            Ok(Done {
+                facts,
+                redraw: false,
+            })
+        }
+        Event::End(_) => Ok(Done {
+            facts: changes::end(seen.found, table),
+            redraw: false,
+        }),
+        Event::AddWorking(server) => changes::add_working(server, rows, flags, roster),
+        Event::RemoveWorking(server) => changes::remove_working(server, table, rows, flags, roster),
+        Event::AddHorizon(server) => changes::add_horizon(server, rows, flags, roster),
+        Event::RemoveHorizon(server) => changes::remove_horizon(server, rows, flags, roster),
+        Event::Configure(settings) => changes::configure(settings, table, rows, flags, roster),
+    }
+}
+
+// The event, unless what is lent or what is wrong with its record refuses it. A packet's roster is tested in `packets::packet`, where its
+// lists are lent.
+fn admit(event: Result<Event, Fault>, sized: bool, roster: &Roster) -> Result<Event, Refusal>
+    ensures { asked_by result ≡ admitted_so_far sized (sound_of roster.now) (request_of event) }
 {
     if !sized {
-        return Ask::Refused(9);
+        return Err(Refusal::WrongLengths);
     }
-    if looking::is_packet(ask) {
-        return ask;
+    if !looking::is_packet(event) && !roster::sound(*roster) {
+        return Err(Refusal::UnsoundRoster);
     }
-    if !roster::sound(roster) {
-        return Ask::Refused(11);
-    }
-    ask
+    Ok(event?)
 }
 
 // Starts on a lent table: refused only by 9, else the table is zeroed and the roster is empty.
@@ -104,8 +135,8 @@ pub fn begin(table: &mut [u8], rows: usize, flags: usize, ring: usize, roster: R
 {
     if !looking::sizes_right(table.len(), rows, flags, ring) {
         return Outcome {
-            reply: Reply::Refused(9),
-            roster: roster,
+            reply: Refusal::WrongLengths.into(),
+            roster,
         };
     }
     table::start(table);
@@ -124,7 +155,5 @@ pub fn plan_of(r: Roster) -> [Entry; ring::RING_PLACES]
     ensures { result ≡ planned (held_servers r) (working_set r) }
 {
     let n = roster::in_use(r.held);
-    let states = r.states;
-    let servers: &[u32] = &r.servers;
-    ringplan::plan(&servers[..n], &states[..n])
+    ringplan::plan(&r.servers[..n], &r.states[..n])
 }

@@ -1,96 +1,79 @@
 // What can be told of an event record before the ring is read.
 ghost use Rattle.std.specs.Prelude.{◌≡◌, cond, not, false, eqb};
-ghost use Rattle.event.specs.Event.{request_of};
-ghost use Rattle.rules.specs.Rules.{sizes_right};
+ghost use Rattle.event.specs.Event.{request_of, packet_kind};
+ghost use Rattle.rules.specs.Rules.{sizes_right, is};
 ghost use Rattle.settings.specs.Settings.{by_ring};
 ghost use Rattle.table.specs.Table.{finding_of};
-ghost use Rattle.engine.specs.Looking.{look_of, lookup_facts, nothing_found, asks_packet, asks_of_key};
+ghost use Rattle.engine.specs.Looking.{look_of, lookup_facts, key_asked};
 
 use crate::Lookup;
-use event::{Ask, Event};
+use event::{Event, Fault};
 use roster::Roster;
 use table::Found;
 
 // Whether every lent buffer has its length: refusal 9.
+#[tactic(auto, unfolding(rules::specs::Rules::sizes_right))]
 pub(crate) fn sizes_right(table: usize, rows: usize, flags: usize, ring: usize) -> bool
     ensures { result ≡ sizes_right table rows flags ring }
 {
-    if table == 0 {
-        return false;
-    }
-    if table::MOST_TABLE_BYTES < table {
-        return false;
-    }
-    if table % table::RECORD_BYTES != 0 {
-        return false;
-    }
-    if rows != rows::ROW_PLACES {
-        return false;
-    }
-    if flags != rows::ROW_PLACES {
-        return false;
-    }
-    ring == ring::RING_PLACES
+    table != 0
+        && table <= table::MOST_TABLE_BYTES
+        && table % table::RECORD_BYTES == 0
+        && rows == rows::ROW_PLACES
+        && flags == rows::ROW_PLACES
+        && ring == ring::RING_PLACES
 }
 
 // Looks for the key's record, where the event has a key; for a packet without one also F of the key,
 // and how many ring entries are to be searched. The table is searched in this one place.
-pub(crate) fn seek(event: Event, table: &[u8], sized: bool, roster: Roster) -> Lookup
+pub(crate) fn seek(event: Result<Event, Fault>, table: &[u8], sized: bool, roster: Roster) -> Lookup
     ensures { lookup_facts result ≡ look_of sized (request_of event) table.now roster }
 {
-    let ask = event.ask;
-    if !has_key(ask) {
-        return seek_nothing(event, sized);
-    }
-    let key = event.key;
+    let nothing = Lookup {
+        event,
+        found: Found::Nothing(0),
+        f: 0,
+        places: 0,
+        sized,
+    };
+    let Some(key) = key_of(event) else {
+        return nothing;
+    };
     let found = table::find(table, key);
-    if !unrecorded(ask, found) {
-        return Lookup {
-            event: event,
-            found: found,
-            f: 0,
-            places: 0,
-            sized: sized,
-        };
+    if !unrecorded(event, found) {
+        return Lookup { found, ..nothing };
     }
     Lookup {
-        event: event,
-        found: found,
+        found,
         f: hash::fnv(&key),
         places: places_read(roster),
-        sized: sized,
+        ..nothing
     }
 }
 
-// Whether the event has a key: a packet or an end.
-fn has_key(ask: Ask) -> bool
-    ensures { result ≡ asks_of_key ask }
+// The key of a packet or an end.
+fn key_of(event: Result<Event, Fault>) -> Option<[u8; table::KEY_BYTES]>
+    ensures { result ≡ key_asked (request_of event) }
 {
-    match ask {
-        Ask::Packet => true,
-        Ask::End => true,
-        _ => false,
+    match event {
+        Ok(Event::Packet(key)) => Some(key),
+        Ok(Event::End(key)) => Some(key),
+        _ => None,
     }
 }
 
 // Whether it is a packet whose key has no record.
-fn unrecorded(ask: Ask, found: Found) -> bool
-    ensures { result ≡ cond (asks_packet ask) (not (finding_of found).found) false }
+fn unrecorded(event: Result<Event, Fault>, found: Found) -> bool
+    ensures { result ≡ cond (is packet_kind (request_of event)) (not (finding_of found).found) false }
 {
-    match found {
-        Found::At(_) => false,
-        Found::Nothing(_) => is_packet(ask),
-    }
+    is_packet(event) && matches!(found, Found::Nothing(_))
 }
 
 // Whether a packet is asked for.
-pub(crate) fn is_packet(ask: Ask) -> bool
-    ensures { result ≡ asks_packet ask }
+pub(crate) fn is_packet(event: Result<Event, Fault>) -> bool
+    ensures { result ≡ is packet_kind (request_of event) }
 {
-    match ask {
-        Ask::Packet => true,
-        _ => false,
-    }
+    matches!(event, Ok(Event::Packet(_)))
 }
 
 // How many ring entries a packet without a record searches.
@@ -101,17 +84,4 @@ fn places_read(roster: Roster) -> usize
         return roster.held;
     }
     0
-}
-
-// An event without a key looks for nothing.
-fn seek_nothing(event: Event, sized: bool) -> Lookup
-    ensures { lookup_facts result ≡ record { request = request_of event; found = nothing_found; f = 0; places = 0; sized = sized } }
-{
-    Lookup {
-        event: event,
-        found: Found::Nothing(0),
-        f: 0,
-        places: 0,
-        sized: sized,
-    }
 }

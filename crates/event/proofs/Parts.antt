@@ -1,22 +1,13 @@
--- The parts of a record and of its body, as the code takes them: the two zeros, the bytes one by one, and the filler.
-use Prim.Native.Nat.{ℕ, zero, suc, ◌+◌, ◌<◌}
-use mathlib.Core.Bool.{Bool, true, false, cond}
-use mathlib.Core.List.{List, [], ◌∷◌}
-use mathlib.Core.Path.{◌≡◌, sym, ap, ◌∙◌}
+-- The parts of a record, as the code takes them: the two zeros, and the body behind them.
+use Prim.Native.Nat.{ℕ, ◌-◌, ◌<◌}
+use mathlib.Core.Bool.{true, false, cond}
+use mathlib.Core.List.{List}
+use mathlib.Core.Path.{◌≡◌}
 use native.Mathlib.Omega.{arith}
 use lib.Dec.{eqb}
-use lib.ListN.{length, get_or, take, drop, length-drop, drop_of_length-le}
+use lib.ListN.{length, get_or, take, drop, length-drop}
 use lib.Seq.{drop-cons, take_all}
 use Rattle.spans.specs.Spans.{all_zero}
-
--- the n elements from i on, each read by its index
-abbrev pub onward : ℕ → ℕ → List ℕ → List ℕ
-onward zero i l = []
-onward (suc n) i l = get_or l i 0 ∷ onward n (suc i) l
-
-pub onward-drop : (n i : ℕ) (l : List ℕ) → length l ≡ i + n → onward n i l ≡ drop i l
-onward-drop zero i l e = sym (drop_of_length-le l {i = i} (omega arith))
-onward-drop (suc n) i l e = rw (drop-cons l i 0 (omega arith), onward-drop n (suc i) l (omega arith))
 
 -- bytes 1 and 2 are zero where each of them is
 pub two_zeros : (l : List ℕ) → 2 < length l
@@ -24,6 +15,6 @@ pub two_zeros : (l : List ℕ) → 2 < length l
 unfolding all_zero
 two_zeros l h = rw (drop-cons l 1 0 (omega arith), drop-cons l 2 0 h)
 
--- the filler behind a server is all of the body from byte 4 on
-pub filler : (body : List ℕ) (z : Bool) → length body ≡ 13 → z ≡ all_zero (take 9 (drop 4 body)) → all_zero (drop 4 body) ≡ z
-filler body z n e = ap all_zero (sym (take_all 9 (drop 4 body) (simp length-drop (omega arith)))) ∙ sym e
+-- what is lent from byte 3 on is all that follows it
+pub rest : (l : List ℕ) → take (length l - 3) (drop 3 l) ≡ drop 3 l
+rest l = take_all (length l - 3) (drop 3 l) (simp length-drop (omega arith))

@@ -16,8 +16,8 @@ use Rattle.spans.specs.Spans.{all_zero}
 use Rattle.spans.proofs.Scans.{all_zero_zeros}
 use Rattle.settings.specs.declared.Settings.{Settings}
 use Rattle.settings.specs.Settings.{named, well_formed, valid}
-use Rattle.event.specs.declared.Ask.{Ask}
-use Rattle.event.specs.declared.Ask.TheVariants.{Packet, End, AddWorking, RemoveWorking, AddHorizon, RemoveHorizon, Configure}
+use Rattle.event.specs.declared.Event.{Event}
+use Rattle.event.specs.declared.Event.TheVariants.{Packet, End, AddWorking, RemoveWorking, AddHorizon, RemoveHorizon, Configure}
 use Rattle.event.specs.Event.{Request, request_by, refused_by, asks_key, names, asks_server, configures, asks_settings, by_kind, event_in, all_bytes}
 use Rattle.event.proofs.Reading.{bytes_at, framed, by_server}
 
@@ -126,6 +126,6 @@ no_server_reads kind low high = framed kind (replicate 13 0) refl ∙ by_server 
 
 -- the table's first two columns: what each kind number asks
 pub kind_numbers : (key : List ℕ) (s : ℕ) (c : Settings)
-    → map (λ (a : Ask). (request_by a key).kind) (Packet ∷ End ∷ AddWorking s ∷ RemoveWorking s ∷ AddHorizon s ∷ RemoveHorizon s ∷ Configure c ∷ [])
+    → map (λ (e : Event). (request_by e).kind) (Packet key ∷ End key ∷ AddWorking s ∷ RemoveWorking s ∷ AddHorizon s ∷ RemoveHorizon s ∷ Configure c ∷ [])
     ≡ 1 ∷ 2 ∷ 3 ∷ 4 ∷ 5 ∷ 6 ∷ 7 ∷ []
 kind_numbers key s c = refl

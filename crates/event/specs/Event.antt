@@ -1,12 +1,13 @@
 -- Document 01, "Event record, 16 bytes. Byte 0 is the kind; bytes 1 and 2 are zero.": what an event record asks, in the document's numbers.
-use Rattle.std.specs.Prelude.{ℕ, Bool, true, false, cond, List, [], ◌∷◌, eqb, ltb, length, get_or, take, drop, replicate}
+use Rattle.std.specs.Prelude.{ℕ, Bool, true, false, cond, List, [], ◌∷◌, Result, Ok, Err, eqb, ltb, length, get_or, take, drop, replicate}
 use Rattle.bigendian.specs.BigEndian.{number4_at}
 use Rattle.spans.specs.Spans.{all_zero}
 use Rattle.settings.specs.declared.Settings.{Settings}
 use Rattle.settings.specs.Settings.{fresh, named, well_formed, body_bytes}
-use Rattle.event.specs.declared.Ask.{Ask}
-use Rattle.event.specs.declared.Ask.TheVariants.{Packet, End, AddWorking, RemoveWorking, AddHorizon, RemoveHorizon, Configure, Refused}
 use Rattle.event.specs.declared.Event.{Event}
+use Rattle.event.specs.declared.Event.TheVariants.{Packet, End, AddWorking, RemoveWorking, AddHorizon, RemoveHorizon, Configure}
+use Rattle.event.specs.declared.Fault.{Fault}
+use Rattle.event.specs.declared.Fault.TheVariants.{Malformed, ServerZero}
 
 -- "Event record, 16 bytes."
 abbrev pub event_bytes : ℕ
@@ -88,19 +89,33 @@ event_in record' =
     (cond (all_zero (take 2 (drop 1 record'))) (by_kind (get_or record' 0 0) (drop 3 record')) (refused_by 1))
     (refused_by 1)
 
--- the document's number and values for each case of the answer, whose key stands beside it
-abbrev pub request_by : Ask → List ℕ → Request
-request_by Packet key = asks_key packet_kind key
-request_by End key = asks_key end_kind key
-request_by (AddWorking s) key = record { refusal = 0; kind = add_working_kind; key = key; server = s; settings = fresh }
-request_by (RemoveWorking s) key = record { refusal = 0; kind = remove_working_kind; key = key; server = s; settings = fresh }
-request_by (AddHorizon s) key = record { refusal = 0; kind = add_horizon_kind; key = key; server = s; settings = fresh }
-request_by (RemoveHorizon s) key = record { refusal = 0; kind = remove_horizon_kind; key = key; server = s; settings = fresh }
-request_by (Configure c) key = record { refusal = 0; kind = configure_kind; key = key; server = 0; settings = c }
-request_by (Refused n) key = record { refusal = n; kind = 0; key = key; server = 0; settings = fresh }
+-- the document's number and values for each case of the answer
+abbrev pub request_by : Event → Request
+request_by (Packet key) = asks_key packet_kind key
+request_by (End key) = asks_key end_kind key
+request_by (AddWorking s) = names add_working_kind s
+request_by (RemoveWorking s) = names remove_working_kind s
+request_by (AddHorizon s) = names add_horizon_kind s
+request_by (RemoveHorizon s) = names remove_horizon_kind s
+request_by (Configure c) = configures c
 
-abbrev pub request_of : Event → Request
-request_of e = request_by e.ask e.key
+-- refusal 1: "event not 16 bytes, unknown kind, non-zero filler, bad method or row count"; 2: "kinds 3 to 6 with server 0"
+abbrev pub fault_number : Fault → ℕ
+fault_number Malformed = 1
+fault_number ServerZero = 2
+
+abbrev pub request_of : Result Event Fault → Request
+request_of (Ok e) = request_by e
+request_of (Err f) = refused_by (fault_number f)
+
+-- what a body asks by the server, or by the settings, that is read in it
+abbrev pub asked_of : ℕ → Result ℕ Fault → Request
+asked_of kind (Ok s) = names kind s
+asked_of kind (Err f) = refused_by (fault_number f)
+
+abbrev pub settings_of : Result Settings Fault → Request
+settings_of (Ok c) = configures c
+settings_of (Err f) = refused_by (fault_number f)
 
 -- every number of a list is a byte
 unfoldable pub all_bytes : List ℕ → Bool

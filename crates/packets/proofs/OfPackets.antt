@@ -28,11 +28,10 @@ use Rattle.ring.specs.declared.Entry.{Entry}
 use Rattle.ring.specs.Ring.{gives}
 use Rattle.ringplan.specs.Plan.{some}
 use Rattle.ringplan.proofs.Members.{member-some}
-use Rattle.rules.specs.declared.Reply.{Reply}
-use Rattle.rules.specs.declared.Reply.TheVariants.{Refused}
-use Rattle.rules.specs.Answer.{accepts}
+use Rattle.rules.specs.declared.Refusal.{Refusal}
+use Rattle.rules.specs.declared.Refusal.TheVariants.{LedToIdle, NoneWorking}
+use Rattle.rules.specs.Answer.{accepts, number_of}
 use Rattle.rules.specs.Rules.{state_with, State, lent_bar, admitted, judged, barred, effect, target, packet, refused, answered, pick_by}
-use Rattle.answers.specs.Reacting.{replied}
 use Rattle.packets.specs.Lent.{Lent}
 
 -- ---- a sound roster: who works is in the working set, and the choice over that set works
@@ -76,8 +75,8 @@ module _ (key t rows flags : List ℕ) (pick : Pick) (r : Roster) (found : Findi
 
   module _ (ss xs : List ℕ) (l : Lent r ss xs) where
     -- the server that the packet is led to doesn't work
-    pub led_nowhere : (v : Reply) → v ≡ Refused (cond (some (in_state 1 ss xs)) 8 7) → (state_in (target found pick st) ss xs ≡ 1 → ⊥)
-        → replied v t rows flags r ≡ judged (asks_key 1 key) found pick st
+    pub led_nowhere : (e : Refusal) → e ≡ cond (some (in_state 1 ss xs)) LedToIdle NoneWorking → (state_in (target found pick st) ss xs ≡ 1 → ⊥)
+        → refused (number_of e) st ≡ judged (asks_key 1 key) found pick st
     led_nowhere v e n =
         let same : some (in_state 1 ss xs) ≡ some (working_set r) = rw (l.servers, l.states) in
         let idle : state_of (target found pick st) r ≡ 1 → ⊥ = λ w. n (rw (l.servers, l.states) at w) in

@@ -6,7 +6,11 @@ use Prim.Native.Nat.{ℕ}
 use Rattle.rules.specs.declared.Reply.{Reply}
 use Rattle.rules.specs.Answer.{answer_of}
 use Rattle.rules.specs.Rules.{World, Done, EventPromise, StartPromise}
-use Rattle.rules.proofs.Apart.{answer_apart}
+use Rattle.rules.specs.declared.Refusal.{Refusal}
+use Rattle.rules.proofs.Apart.{answer_apart, refusal_apart}
+use Rattle.rules.proofs.U8FromRefusal.from.Reads.{Learnt as number-promise}
+use Rattle.rules.proofs.RefusalFromFault.from.Reads.{Learnt as of-fault-promise}
+use Rattle.rules.proofs.ReplyFromRefusal.from.Reads.{Learnt as of-refusal-promise}
 
 module _ (after after' : World) (reply reply' : Reply) where
   same_done : (d : Done) → record { answer = answer_of reply; world = after } ≡ d → record { answer = answer_of reply'; world = after' } ≡ d
@@ -22,3 +26,13 @@ module _ (after after' : World) (reply reply' : Reply) where
 
   pub start_unique : (before : World) → StartPromise before after reply → StartPromise before after' reply' → (reply ≡ reply') × (after ≡ after')
   start_unique before p q = same_done _ p q
+
+-- a refusal's number, the refusal of what is wrong with a record, and the reply that a refusal comes to: of the contracts
+pub number_unique : (κs : _) (a : _) (x y : ℕ) (e e' : _) → number-promise κs a x e → number-promise κs a y e' → x ≡ y
+number_unique κs a x y e e' p q = p ∙ sym q
+
+pub refusal_of_fault_unique : (κs : _) (a : _) (x y : Refusal) (e e' : _) → of-fault-promise κs a x e → of-fault-promise κs a y e' → x ≡ y
+refusal_of_fault_unique κs a x y e e' p q = refusal_apart x y (p ∙ sym q)
+
+pub reply_of_refusal_unique : (κs : _) (a : _) (x y : Reply) (e e' : _) → of-refusal-promise κs a x e → of-refusal-promise κs a y e' → x ≡ y
+reply_of_refusal_unique κs a x y e e' p q = p ∙ sym q

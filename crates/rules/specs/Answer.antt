@@ -2,6 +2,8 @@
 use Rattle.std.specs.Prelude.{ℕ, Bool, true, false}
 use Rattle.rules.specs.declared.Reply.{Reply}
 use Rattle.rules.specs.declared.Reply.TheVariants.{Accepted, Refused}
+use Rattle.rules.specs.declared.Refusal.{Refusal}
+use Rattle.rules.specs.declared.Refusal.TheVariants.{WrongLengths, UnsoundRoster, Malformed, ServerZero, NotEmpty, HeldAlready, RosterFull, NotInHorizon, NotWorking, NoneWorking, LedToIdle}
 
 -- "A refusal returns its number, server 0, mark 0, reads 0"; an accepted event has refusal 0
 pub record Answer : Type 0 where
@@ -20,6 +22,20 @@ refuses n = record { accepted = false; refusal = n; server = 0; mark = 0; reads 
 abbrev pub answer_of : Reply → Answer
 answer_of (Accepted s mark reads) = accepts s mark reads
 answer_of (Refused n) = refuses n
+
+-- "Refusal numbers": the table's first column, for each of its lines
+abbrev pub number_of : Refusal → ℕ
+number_of WrongLengths = 9
+number_of UnsoundRoster = 11
+number_of Malformed = 1
+number_of ServerZero = 2
+number_of NotEmpty = 10
+number_of HeldAlready = 3
+number_of RosterFull = 6
+number_of NotInHorizon = 4
+number_of NotWorking = 5
+number_of NoneWorking = 7
+number_of LedToIdle = 8
 
 -- the marks of accepted packets and ends: "1 from the record, 2 chosen and safe, 3 chosen and recorded, 4 chosen, unsafe and no room; 5 record
 -- removed, 6 nothing to remove"; and request [1]'s 8, at the "first end on a record"

@@ -18,24 +18,21 @@ pub struct Tried {
 }
 
 // Does what an event record asks, on a ring that is handed in and handed back.
+// Stays (5): as `balancer` takes them; so too below.
 pub fn event(
     record: &[u8],
     table: &mut [u8],
     rows: &mut [u32],
     flags: &mut [u8],
-    ring: [Entry; ring::RING_PLACES],
+    mut ring: [Entry; ring::RING_PLACES],
     roster: Roster,
 ) -> Tried
     ensures { EventPromise «record».now
         (world_with table.old rows.old flags.old ring roster)
         (world_with table.new rows.new flags.new result.ring result.outcome.roster) result.outcome.reply }
 {
-    let mut es = ring;
-    let outcome = balancer::event(record, table, rows, flags, &mut es, roster);
-    Tried {
-        outcome: outcome,
-        ring: es,
-    }
+    let outcome = balancer::event(record, table, rows, flags, &mut ring, roster);
+    Tried { outcome, ring }
 }
 
 // Starts on a lent table with a ring that stays as it is.
@@ -50,8 +47,7 @@ pub fn start(
         (world_with table.old rows.now flags.now ring roster)
         (world_with table.new rows.now flags.now ring result.roster) result.reply }
 {
-    let es = ring;
-    balancer::start(table, rows, flags, &es, roster)
+    balancer::start(table, rows, flags, &ring, roster)
 }
 
 // An event that meets a ring of 63 blank entries: refused with 9, whatever the rest is.
@@ -66,18 +62,6 @@ pub fn event_short(
         (world_with table.old rows.old flags.old (replicate 63 blank) roster)
         (world_with table.new rows.new flags.new (replicate 63 blank) result.roster) result.reply }
 {
-    let mut es = short_ring();
-    balancer::event(record, table, rows, flags, &mut es, roster)
-}
-
-// A ring with an entry too few, all blank.
-fn short_ring() -> [Entry; 63]
-    ensures { result ≡ replicate 63 blank }
-{
-    let e = Entry {
-        position: 0,
-        server: 0,
-        track: 0,
-    };
-    [e; 63]
+    let mut ring = [Entry::default(); 63];
+    balancer::event(record, table, rows, flags, &mut ring, roster)
 }

@@ -5,7 +5,7 @@ use Rattle.engine.proofs.begin.Goals as goal
 
 pub returns-then-not-sizes_right : goal.returns-then-not-sizes_right
 unfolding start_of
-returns-then-not-sizes_right c ns fs es p q r = rw (p, q, r, sym c.sizes_right.ensures ∙ c.if-not-sizes_right.true)
+returns-then-not-sizes_right c ns fs es p q r = rw (p, q, r, sym c.sizes_right.ensures ∙ c.if-not-sizes_right.true, c.into.ensures)
 
 pub returns : goal.returns
 unfolding start_of

@@ -9,5 +9,5 @@ pub returns : goal.returns
 returns c =
     let p = c.args in
     c.seek.ensures
-    ∙ ap (λ (e : Request). look_of c.sizes_right-sized.result e p.table.now p.roster) c.read-event.ensures
+    ∙ ap (λ (e : Request). look_of c.sizes_right-sized.result e p.table.now p.roster) c.read.ensures
     ∙ ap (λ (b : Bool). look_of b (event_in p.bytes.now) p.table.now p.roster) c.sizes_right-sized.ensures

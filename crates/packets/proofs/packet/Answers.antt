@@ -7,18 +7,18 @@ use Rattle.packets.proofs.packet.Goals as goal
 pub returns-then-not-sound : goal.returns-then-not-sound
 returns-then-not-sound c =
     let p = c.args in
-    let servers : length p.r.servers ≡ 64 = search rules in
-    let states : length p.r.states ≡ 64 = search rules in
+    let servers : length p.r.now.servers ≡ 64 = search rules in
+    let states : length p.r.now.states ≡ 64 = search rules in
     -- what the test of the parts says of the roster
-    let tested : c.sound.result ≡ sound p.r = c.sound.ensures ∙ lent-sound p.r servers states in
-    packet_11 p.key p.table.now p.rows.now p.flags.now _ p.r _ (sym tested ∙ c.if-not-sound.true)
+    let tested : c.sound.result ≡ sound p.r.now = c.sound.ensures ∙ lent-sound p.r.now servers states in
+    packet_11 p.asked.key p.table.now p.rows.now p.flags.now _ p.r.now _ (sym tested ∙ c.if-not-sound.true)
 
 pub returns : goal.returns
 returns c =
     let p = c.args in
-    let servers : length p.r.servers ≡ 64 = search rules in
-    let states : length p.r.states ≡ 64 = search rules in
-    let tested : c.sound.result ≡ sound p.r = c.sound.ensures ∙ lent-sound p.r servers states in
-    let passed : sound p.r ≡ true = sym tested ∙ c.if-not-sound.false in
-    c.lead.ensures p.r (record { sound = passed; servers = refl; states = refl }) refl
-    ∙ packet-admitted p.key p.table.now p.rows.now p.flags.now _ p.r _ passed
+    let servers : length p.r.now.servers ≡ 64 = search rules in
+    let states : length p.r.now.states ≡ 64 = search rules in
+    let tested : c.sound.result ≡ sound p.r.now = c.sound.ensures ∙ lent-sound p.r.now servers states in
+    let passed : sound p.r.now ≡ true = sym tested ∙ c.if-not-sound.false in
+    c.lead.ensures p.r.now (record { sound = passed; servers = refl; states = refl }) refl
+    ∙ packet-admitted p.asked.key p.table.now p.rows.now p.flags.now _ p.r.now _ passed

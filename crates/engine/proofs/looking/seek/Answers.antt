@@ -1,26 +1,29 @@
 -- `engine::looking::seek` meets its contract.
 use mathlib.Core.Path.{sym, ◌∙◌}
+use Rattle.event.specs.Event.{request_of}
+use Rattle.table.specs.Table.{finding_of}
 use Rattle.engine.proofs.OfLooking.{look_nothing, look_found, look_open}
 use Rattle.engine.proofs.looking.seek.Goals as goal
 
-pub returns-then-not-has_key : goal.returns-then-not-has_key
-returns-then-not-has_key c =
+pub returns-in_default : goal.returns-in_default
+returns-in_default c =
     let p = c.args in
-    c.seek_nothing.ensures
-    ∙ look_nothing p.event p.table.now p.sized p.roster (sym c.has_key.ensures ∙ c.if-not-has_key.true)
+    look_nothing (request_of p.event) p.table.now p.sized p.roster (λ k q. c.in_default.not-Some k (c.key_of.ensures ∙ q))
 
 pub returns-then-not-unrecorded : goal.returns-then-not-unrecorded
 returns-then-not-unrecorded c =
     let p = c.args in
-    look_found p.event p.table.now p.sized p.roster c.find-found.result
-    (sym c.has_key.ensures ∙ c.if-not-has_key.false)
+    look_found (request_of p.event) p.table.now p.sized p.roster (finding_of c.find-found.result) c.in-Some.key
+    (sym c.in-Some.is ∙ c.key_of.ensures)
     c.find-found.ensures
     (sym c.unrecorded.ensures ∙ c.if-not-unrecorded.true)
 
 pub returns : goal.returns
 returns c =
     let p = c.args in
-    look_open p.event p.table.now p.sized p.roster c.find-found.result _ _ c.find-found.ensures
+    look_open (request_of p.event) p.table.now p.sized p.roster (finding_of c.find-found.result) c.in-Some.key _ _
+    (sym c.in-Some.is ∙ c.key_of.ensures)
+    c.find-found.ensures
     (sym c.unrecorded.ensures ∙ c.if-not-unrecorded.false)
     c.fnv.ensures
     c.places_read.ensures
