@@ -9,12 +9,12 @@ use lib.Dec.{eqb}
 use lib.ListN.{length, take, drop, length-append, length-drop}
 use lib.Seq.{length-take-le}
 use borrow.Author.Tests.{eqb-true}
-use Rattle.frames.specs.declared.Outcome.{Outcome}
 use Rattle.pcap.specs.Captures.{header_refusal, header_bytes, packets_in, outcomes_in, refusal_in, refused_at, read_in}
 use Rattle.claims_captures.specs.Captured.{carried_on}
 use Rattle.claims_captures.proofs.Files.{refusal_same, sound_long, refused-behind, refused_within}
 use Rattle.claims_captures.proofs.Stands.{before_stands, outcomes_on, carried, longer}
 use Rattle.claims_captures.proofs.Windows.{kept_from}
+use Rattle.frames.specs.Frames.{Outcome}
 
 pub record Carries (come q : List ℕ) (done : List Outcome) (before : ℕ) : Type 0 where
   pub shorter : length q ≤ length come

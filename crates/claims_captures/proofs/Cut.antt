@@ -8,8 +8,7 @@ use native.Mathlib.Omega.{arith}
 use lib.Dec.{eqb}
 use lib.ListN.{length, take, drop, length-drop, drop_of_length-le}
 use lib.Seq.{take-take, take-append-le, length-take-le}
-use Rattle.frames.specs.declared.Outcome.{Outcome}
-use Rattle.frames.specs.Frames.{outcome}
+use Rattle.frames.specs.Frames.{Outcome, outcome}
 use Rattle.pcap.specs.Captures.{low_first, ethernet, header_refusal, header_bytes, record_bytes, record_size, captured, packet, packets_in, outcomes_in, refused_at}
 use Rattle.pieces.specs.Pieces.{most_read}
 use Rattle.claims_captures.proofs.Records.{packets_of, left_of, size_whole, few_whole, packets-first, left_first, packets-none, left_all}

@@ -9,8 +9,7 @@ use lib.ListN.{length}
 use Rattle.sets.proofs.Cases.{both}
 use Rattle.event.specs.Event.{packet_kind, end_kind}
 use Rattle.event.proofs.Reading.{packet_reads, end_reads}
-use Rattle.frames.specs.declared.Outcome.{Outcome}
-use Rattle.frames.specs.Frames.{outcome, emitted}
+use Rattle.frames.specs.Frames.{Outcome, outcome, emitted}
 use Rattle.pcap.specs.Captures.{ethernet, event_record, events_of, all_events, packets_in}
 use Rattle.claims_captures.specs.Captured.{IsEvent, Every, EventsRead}
 use Rattle.claims_captures.proofs.Reasons.{key_sized}

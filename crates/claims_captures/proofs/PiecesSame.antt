@@ -10,13 +10,11 @@ use lib.ListN.{length, set, take, drop, replicate, length-set, length-drop, leng
 use lib.Seq.{length-take-le, take-suc-set}
 use borrow.Author.Tests.{eq-eqb, ne_eqb, eqb-true, eqb-false, ltb-true, ltb-false, leb-true, leb-false}
 use Rattle.sets.proofs.Cases.{both, clash}
-use Rattle.frames.specs.declared.Outcome.{Outcome}
-use Rattle.frames.specs.Frames.{outcome, emitted}
+use Rattle.frames.specs.Frames.{Outcome, outcome, emitted}
 use Rattle.pcap.specs.declared.Tally.{Tally}
 use Rattle.pcap.specs.Captures.{low_first, high_first, ethernet, header_refusal, header_bytes, record_size, whole, packets_in, outcomes_in, refusal_in, refused_at, short_record, all_events, step_at, meets}
-use Rattle.pieces.specs.declared.Stream.{Stream}
 use Rattle.pieces.specs.Pieces.{joined}
-use Rattle.pieces.specs.Streams.{beginning, last_said, last_refusal, ending}
+use Rattle.pieces.specs.Streams.{Stream, beginning, last_said, last_refusal, ending}
 use Rattle.pcap.proofs.Files.{whole_there}
 use Rattle.claims_captures.specs.Captured.{sums_of}
 use Rattle.claims_captures.specs.Fed.{Arrives, Fed, begins, comes, SameAs, PiecesSame, PiecesExactly, Feeds, AnyLength}

@@ -11,11 +11,9 @@ use lib.Seq.{drop-drop}
 use borrow.Author.Tests.{ltb-true, ltb-false, lt-ltb, le-ltb, eqb-true, ne_eqb}
 use Rattle.sets.proofs.Cases.{both}
 use Rattle.event.specs.Event.{packet_kind, end_kind}
-use Rattle.frames.specs.declared.Outcome.{Outcome}
-use Rattle.frames.specs.Frames.{outcome, emitted}
-use Rattle.pcap.specs.declared.Said.TheVariants.{Event, Skipped, Finished, Refused}
+use Rattle.frames.specs.Frames.{Outcome, outcome, emitted}
 use Rattle.pcap.specs.declared.Tally.{Tally}
-use Rattle.pcap.specs.Captures.{low_first, ethernet, header_refusal, header_bytes, whole, record_size, packet, behind, packets, event_record, events_of, all_events, counted, read_in, outcomes_in, refusal_in, short_record, nothing, step_at, record_at, meets, silent, with_one}
+use Rattle.pcap.specs.Captures.{Event, Skipped, Finished, Refused, low_first, ethernet, header_refusal, header_bytes, whole, record_size, packet, behind, packets, event_record, events_of, all_events, counted, read_in, outcomes_in, refusal_in, short_record, nothing, step_at, record_at, meets, silent, with_one}
 use Rattle.pieces.specs.Pieces.{Ran, stopped, with_event, read_on, enough}
 use Rattle.pieces.proofs.Turns.{turn, whole-behind}
 use Rattle.claims_captures.proofs.Records.{few_whole, packets_of, left_of, packets-first, left_first, packets-none, left_all, behind-length}

@@ -8,8 +8,7 @@ use lib.Dec.{eqb, leb, ltb}
 use lib.ListN.{length, length-append, length-drop, length-take}
 use borrow.Author.Tests.{ltb-true, ltb-false, leb-true, eqb-true}
 use Rattle.sets.proofs.Cases.{both, clash}
-use Rattle.frames.specs.declared.Outcome.{Outcome}
-use Rattle.frames.specs.Frames.{outcome, of_ethernet, of_ipv4, asked, carried, skipped, emitted, cut_short, key_in, ports_at, header_words, version, ether_type, is_tcp, is_udp, has_fin, fragment_offset}
+use Rattle.frames.specs.Frames.{Outcome, outcome, of_ethernet, of_ipv4, asked, carried, skipped, emitted, cut_short, key_in, ports_at, header_words, version, ether_type, is_tcp, is_udp, has_fin, fragment_offset}
 use Rattle.pcap.specs.Captures.{counted, packets_in, ethernet}
 use Rattle.claims_captures.specs.Reasons.{KeyRight, EmittedKey}
 use Rattle.claims_captures.specs.Captured.{AddsUp}

@@ -11,8 +11,7 @@ use lib.ListN.{length, drop, length-drop, length-append}
 use lib.Seq.{drop-append-le, length-take-le}
 use borrow.Author.Tests.{eq-eqb}
 use Rattle.sets.proofs.Cases.{both}
-use Rattle.frames.specs.declared.Outcome.{Outcome}
-use Rattle.frames.specs.Frames.{outcome}
+use Rattle.frames.specs.Frames.{Outcome, outcome}
 use Rattle.pcap.specs.Captures.{low_first, ethernet, header_refusal, header_bytes, events_of, all_events, counted, packets_in, outcomes_in, refusal_in, refused_at, short_record}
 use Rattle.claims_captures.specs.Captured.{carried_on, BeforeStands}
 use Rattle.claims_captures.proofs.Records.{packets_of, left_of, packets-append, left_append}

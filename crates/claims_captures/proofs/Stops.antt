@@ -7,10 +7,8 @@ use native.Mathlib.Nat.{not-suc-le-zero, suc-add, zero-add}
 use native.Mathlib.Omega.{arith}
 use lib.ListN.{length, take}
 use lib.Seq.{take-append_seam, take_all}
-use Rattle.pcap.specs.declared.Said.{Said}
-use Rattle.pcap.specs.declared.Said.TheVariants.{Event, Skipped, Finished, Refused}
 use Rattle.pcap.specs.declared.Tally.{Tally}
-use Rattle.pcap.specs.Captures.{step_at}
+use Rattle.pcap.specs.Captures.{Said, Event, Skipped, Finished, Refused, step_at}
 use Rattle.pieces.specs.Pieces.{Ran, stopped, with_event, by_said, read_on, enough}
 use Rattle.pieces.proofs.Turns.{goes_on as nears, ahead, moves_on, calls_enough, enough-ahead}
 use Rattle.claims_captures.specs.Captured.{goes_on, continued, ReadingOn, MovesOn}

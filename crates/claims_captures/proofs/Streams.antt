@@ -10,14 +10,11 @@ use lib.Seq.{length-take-le, take-take, take-append-le}
 use borrow.Author.Tests.{lt-ltb, le-ltb, le-leb, eq-eqb, ne_eqb, eqb-true, eqb-false, ltb-true, ltb-false}
 use Rattle.sets.proofs.Cases.{both}
 use Rattle.event.specs.Event.{event_bytes}
-use Rattle.frames.specs.declared.Outcome.{Outcome}
-use Rattle.pcap.specs.declared.Said.TheVariants.{Refused}
 use Rattle.pcap.specs.declared.Tally.{Tally}
-use Rattle.pcap.specs.Captures.{low_first, header_refusal, header_bytes, captured, packets_in, outcomes_in, all_events, refused_at, nothing}
+use Rattle.pcap.specs.Captures.{Refused, low_first, header_refusal, header_bytes, captured, packets_in, outcomes_in, all_events, refused_at, nothing}
 use Rattle.pieces.specs.declared.Kept.{Kept}
-use Rattle.pieces.specs.declared.Stream.{Stream}
 use Rattle.pieces.specs.Pieces.{Ran, stopped, room_for, joined, most_read, written, settled_buffer, settled_kept}
-use Rattle.pieces.specs.Streams.{beginning, grown, passing, passed_over, Taken, taken_in, window_done, window_read, onwards, taken}
+use Rattle.pieces.specs.Streams.{Stream, beginning, grown, passing, passed_over, Taken, taken_in, window_done, window_read, onwards, taken}
 use Rattle.claims_captures.specs.Fed.{Arrives, Fed, begins, comes}
 use Rattle.claims_captures.proofs.Files.{SameHeader, refusal_same, packets_bad, header_append, header_other, refused_within, refused-behind, sound_long}
 use Rattle.claims_captures.proofs.Sums.{counting, counting-append, counting_due}
@@ -26,6 +23,7 @@ use Rattle.claims_captures.proofs.Windows.{kept_from, kept-length, cut_window, c
 use Rattle.claims_captures.proofs.Cut.{refused_end, cut_sound, cut_refused, cut_outcomes, cut_kept}
 use Rattle.claims_captures.proofs.Carries.{Carries, carries_none, carries_piece, carries_read, kept-none}
 use Rattle.claims_captures.proofs.WindowRead.{events_room, joined-append, WindowRead, reads_window, reads_bad_window}
+use Rattle.frames.specs.Frames.{Outcome}
 
 -- ---- what the buffer holds of the bytes q that stand for all that have come
 

@@ -7,10 +7,10 @@ use native.Mathlib.Omega.{arith}
 use lib.Dec.{eqb}
 use lib.ListN.{length}
 use Rattle.sets.proofs.Cases.{both}
-use Rattle.frames.specs.declared.Outcome.{Outcome}
 use Rattle.pcap.specs.declared.Tally.{Tally}
 use Rattle.pcap.specs.Captures.{counted, nothing, one_more, with_one}
 use Rattle.claims_captures.specs.Captured.{sums_of}
+use Rattle.frames.specs.Frames.{Outcome}
 
 -- the sums once packets of these outcomes are read
 abbrev pub counting : List Outcome → Tally → Tally

@@ -10,11 +10,9 @@ use lib.ListN.{length, take, drop, length-append, length-drop}
 use lib.Seq.{take_at}
 use Rattle.sets.proofs.Cases.{both}
 use Rattle.event.specs.Event.{event_bytes}
-use Rattle.frames.specs.declared.Outcome.{Outcome}
-use Rattle.frames.specs.Frames.{outcome, emitted}
-use Rattle.pcap.specs.declared.Said.TheVariants.{Refused}
+use Rattle.frames.specs.Frames.{Outcome, outcome, emitted}
 use Rattle.pcap.specs.declared.Tally.{Tally}
-use Rattle.pcap.specs.Captures.{low_first, ethernet, header_refusal, header_bytes, whole, behind, packet, packets, outcomes_in, events_in, events_of, all_events, refused_at}
+use Rattle.pcap.specs.Captures.{Refused, low_first, ethernet, header_refusal, header_bytes, whole, behind, packet, packets, outcomes_in, events_in, events_of, all_events, refused_at}
 use Rattle.pieces.specs.Pieces.{Ran, stopped, read_on, enough, room_for, joined, written}
 use Rattle.claims_captures.specs.Captured.{Every, IsEvent}
 use Rattle.claims_captures.proofs.Records.{behind-length}

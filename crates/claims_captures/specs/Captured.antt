@@ -1,12 +1,9 @@
 -- Request [2], "Feeding in captures": what is proved of reading a capture.
 use Rattle.std.specs.Prelude.{ℕ, ◌+◌, ◌*◌, ◌-◌, ◌≤◌, ◌<◌, ◌%◌, ◌^◌, Bool, true, false, cond, ◌⊎◌, ◌≡◌, List, [], ◌∷◌, ◌++◌, eqb, length, take, drop}
 use Rattle.event.specs.Event.{event_bytes, packet_kind, end_kind, asks_key, event_in}
-use Rattle.frames.specs.declared.Outcome.{Outcome}
-use Rattle.frames.specs.Frames.{outcome, emitted, link_type, not_ipv4, fragment, other_protocol, cut_short}
-use Rattle.pcap.specs.declared.Said.{Said}
-use Rattle.pcap.specs.declared.Said.TheVariants.{Event, Skipped, Finished, Refused}
+use Rattle.frames.specs.Frames.{Outcome, outcome, emitted, link_type, not_ipv4, fragment, other_protocol, cut_short}
 use Rattle.pcap.specs.declared.Tally.{Tally}
-use Rattle.pcap.specs.Captures.{header_bytes, counted, packets_in, read_in, counted_in, outcomes_in, events_in, header_refusal, refusal_in, refused_at, nothing, step_at}
+use Rattle.pcap.specs.Captures.{Said, Event, Skipped, Finished, Refused, header_bytes, counted, packets_in, read_in, counted_in, outcomes_in, events_in, header_refusal, refusal_in, refused_at, nothing, step_at}
 use Rattle.pieces.specs.Pieces.{Ran, by_said, read_on, enough, most_read}
 use Rattle.claims_captures.specs.Reasons.{ByFirst}
 

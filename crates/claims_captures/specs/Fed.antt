@@ -2,9 +2,8 @@
 -- whole file.
 use Rattle.std.specs.Prelude.{ℕ, ◌+◌, ◌*◌, ◌≤◌, ◌<◌, ◌%◌, ◌^◌, cond, List, [], ◌++◌, ◌⊎◌, ◌≡◌, eqb, length, take}
 use Rattle.pcap.specs.Captures.{header_bytes, header_refusal, events_in, outcomes_in, refusal_in, refused_at}
-use Rattle.pieces.specs.declared.Stream.{Stream}
 use Rattle.pieces.specs.Pieces.{joined}
-use Rattle.pieces.specs.Streams.{beginning, taken, ending}
+use Rattle.pieces.specs.Streams.{Stream, beginning, taken, ending}
 use Rattle.claims_captures.specs.Captured.{sums_of, counts_of}
 
 -- a piece comes: it stands behind the window of a buffer as long as before, whatever stands behind it, and goes no further than a packet

@@ -2,8 +2,7 @@
 -- protocol, cut short; where captured bytes that decide one, the ports or TCP's flags are missing, it is cut short. Another EtherType or
 -- version, or a header length under 5, is not IPv4." When a reason applies, each by itself, and what the first that applies is.
 use Rattle.std.specs.Prelude.{ℕ, ◌+◌, ◌≤◌, ◌<◌, Bool, false, cond, List, ◌≢◌, ◌↔◌, ◌⊎◌, ◌≡◌, length, replicate}
-use Rattle.frames.specs.declared.Outcome.{Outcome}
-use Rattle.frames.specs.Frames.{outcome, emitted, link_type, not_ipv4, fragment, other_protocol, cut_short, ether_type, version, header_words, fragment_offset, protocol, ports_at, is_tcp, has_fin, key_in}
+use Rattle.frames.specs.Frames.{Outcome, outcome, emitted, link_type, not_ipv4, fragment, other_protocol, cut_short, ether_type, version, header_words, fragment_offset, protocol, ports_at, is_tcp, has_fin, key_in}
 
 -- a byte of the packet was captured, as were all before it; or it is missing. A field is there once its last byte is
 abbrev pub There : List ℕ → ℕ → Type 0

@@ -1,7 +1,9 @@
 -- Request [2], "Feeding in captures": what becomes of one captured packet. Its bytes are counted from 0.
-use Rattle.std.specs.Prelude.{ℕ, ◌+◌, ◌*◌, ◌/◌, ◌%◌, ◌^◌, Bool, true, false, cond, List, [], ◌∷◌, ◌++◌, eqb, leb, ltb, length, get_or, take, drop, replicate}
+use Rattle.std.specs.Prelude.{ℕ, ◌+◌, ◌*◌, ◌/◌, ◌%◌, ◌^◌, Bool, true, false, cond, List, [], ◌∷◌, ◌++◌, eqb, leb, ltb, length, get_or, take, drop, replicate, Result, Ok, Err}
 use Rattle.bigendian.specs.BigEndian.{number2_at}
-use Rattle.frames.specs.declared.Outcome.{Outcome}
+use Rattle.frames.specs.declared.Carried.{Carried}
+use Rattle.frames.specs.declared.Skip.{Skip}
+use Rattle.frames.specs.declared.Skip.TheVariants.{LinkType, NotIpv4, Fragment, OtherProtocol, CutShort}
 
 -- "Every skipped packet is counted under exactly one reason, the first that applies: link type, not IPv4, fragment, other protocol, cut
 -- short": their numbers in that order; 0 for a packet that isn't skipped
@@ -22,6 +24,12 @@ other_protocol = 4
 
 abbrev pub cut_short : ℕ
 cut_short = 5
+
+-- what becomes of a packet: the number of the reason why it is skipped, or its key, and whether it is TCP's with FIN
+pub record Outcome : Type 0 where
+  pub reason : ℕ
+  pub fin : Bool
+  pub key : List ℕ
 
 abbrev pub skipped : ℕ → Outcome
 skipped why = record { reason = why; fin = false; key = replicate 13 0 }
@@ -84,3 +92,15 @@ of_ethernet b =
 -- "the first that applies: link type, .."; whether the link type is Ethernet, the file's header says
 unfoldable pub outcome : Bool → List ℕ → Outcome
 outcome ethernet b = cond ethernet (of_ethernet b) (skipped link_type)
+
+-- document 01: "If an answer is an enum, a definition gives this paper's number and values for each of its cases."
+abbrev pub reason_of : Skip → ℕ
+reason_of LinkType = link_type
+reason_of NotIpv4 = not_ipv4
+reason_of Fragment = fragment
+reason_of OtherProtocol = other_protocol
+reason_of CutShort = cut_short
+
+abbrev pub outcome_of : Result Carried Skip → Outcome
+outcome_of (Ok c) = record { reason = emitted; fin = c.fin; key = c.key }
+outcome_of (Err why) = skipped (reason_of why)

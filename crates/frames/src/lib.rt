@@ -2,24 +2,11 @@
 
 #![tactic(auto)]
 
-ghost use Rattle.std.specs.Prelude.{◌≡◌, ◌+◌, ◌≤◌, false, length};
-ghost use Rattle.frames.specs.Frames.{outcome, of_ethernet, of_ipv4, carried, key_in, ports_at, header_words, has_fin, emitted, skipped as skipped-by};
+ghost use Rattle.std.specs.Prelude.{◌≡◌, ◌+◌, ◌<◌, ◌≤◌, length, OnOk, OnErr, IfErr};
+ghost use Rattle.frames.specs.Frames.{outcome_of, outcome, of_ethernet, of_ipv4, key_in, ports_at, header_words};
 
 // The bytes of a key: two addresses, two ports and the protocol.
 pub const KEY_BYTES: usize = 13;
-
-// Why a packet is skipped, in the order in which the reasons are asked; 0 where it isn't.
-pub const EMITTED: u8 = 0;
-
-pub const LINK_TYPE: u8 = 1;
-
-pub const NOT_IPV4: u8 = 2;
-
-pub const FRAGMENT: u8 = 3;
-
-pub const OTHER_PROTOCOL: u8 = 4;
-
-pub const CUT_SHORT: u8 = 5;
 
 // The numbers that Ethernet and IPv4 give to IPv4, TCP and UDP.
 const IPV4: u16 = 2048;
@@ -28,82 +15,89 @@ const TCP: u8 = 6;
 
 const UDP: u8 = 17;
 
-// What becomes of a packet: the reason why it is skipped, or its key, and whether it is TCP's with FIN. A skipped packet
-// has a key of zeros and no FIN.
-#[derive(Clone, Copy)]
-pub struct Outcome {
-    pub reason: u8,
+// Why a packet is skipped, in the order in which the reasons are asked.
+#[derive(Clone, Copy, PartialEq, Eq, Debug)]
+pub enum Skip {
+    LinkType,
+    NotIpv4,
+    Fragment,
+    OtherProtocol,
+    CutShort,
+}
+
+// What a packet carries that becomes events: its key, and whether it is TCP's with FIN.
+#[derive(Clone, Copy, PartialEq, Eq, Debug)]
+pub struct Carried {
     pub fin: bool,
     pub key: [u8; KEY_BYTES],
 }
 
 // What becomes of a captured packet; `ethernet` says whether the capture's link type is Ethernet.
 #[tactic(auto, unfolding(crate::specs::Frames::outcome))]
-pub fn judge(ethernet: bool, packet: &[u8]) -> Outcome
-    ensures { result ≡ outcome ethernet packet.now }
+pub fn judge(ethernet: bool, packet: &[u8]) -> Result<Carried, Skip>
+    ensures { outcome_of result ≡ outcome ethernet packet.now }
 {
     if !ethernet {
-        return skipped(LINK_TYPE);
+        return Err(Skip::LinkType);
     }
     of_ethernet(packet)
 }
 
-// A packet that is left out, for a reason.
-fn skipped(reason: u8) -> Outcome
-    ensures { result ≡ skipped-by reason }
+// Asks that a packet's first n bytes are there, which decide the next question.
+fn at_least(packet: &[u8], n: usize) -> Result<(), Skip>
+    ensures there { OnOk result (n ≤ length packet.now) }
+    ensures missing { OnErr result (length packet.now < n) }
+    ensures reason { IfErr result (λ why. why ≡ Skip.CutShort) }
 {
-    Outcome {
-        reason: reason,
-        fin: false,
-        key: [0; KEY_BYTES],
+    if packet.len() < n {
+        return Err(Skip::CutShort);
     }
+    Ok(())
 }
 
 // Asks an Ethernet packet whether IPv4 is in it, in a form that can be read.
 #[tactic(auto, unfolding(crate::specs::Frames::of_ethernet))]
-fn of_ethernet(packet: &[u8]) -> Outcome
-    ensures { result ≡ of_ethernet packet.now }
+fn of_ethernet(packet: &[u8]) -> Result<Carried, Skip>
+    ensures { outcome_of result ≡ of_ethernet packet.now }
 {
-    if packet.len() < 14 {
-        return skipped(CUT_SHORT);
+    at_least(packet, 14)?;
+    if u16::from_be_bytes([packet[12], packet[13]]) != IPV4 {
+        return Err(Skip::NotIpv4);
     }
-    if bigendian::join2(packet[12], packet[13]) != IPV4 {
-        return skipped(NOT_IPV4);
-    }
-    if packet.len() < 15 {
-        return skipped(CUT_SHORT);
-    }
-    if packet[14] / 16 != 4 {
-        return skipped(NOT_IPV4);
-    }
-    if packet[14] % 16 < 5 {
-        return skipped(NOT_IPV4);
+    at_least(packet, 15)?;
+    if packet[14] / 16 != 4 || packet[14] % 16 < 5 {
+        return Err(Skip::NotIpv4);
     }
     of_ipv4(packet)
 }
 
-// Asks an IPv4 packet whether it has the ports, being no later fragment, and of a protocol that has ports.
+// Asks an IPv4 packet whether it has the ports, being no later fragment, and of a protocol that has ports. UDP needs its ports,
+// TCP its flags too.
 #[tactic(auto, unfolding(crate::specs::Frames::of_ipv4))]
-fn of_ipv4(packet: &[u8]) -> Outcome
+fn of_ipv4(packet: &[u8]) -> Result<Carried, Skip>
     requires { 5 ≤ header_words packet.now }
-    ensures { result ≡ of_ipv4 packet.now }
+    ensures { outcome_of result ≡ of_ipv4 packet.now }
 {
-    if packet.len() < 22 {
-        return skipped(CUT_SHORT);
+    at_least(packet, 22)?;
+    if u16::from_be_bytes([packet[20], packet[21]]) % 8192 != 0 {
+        return Err(Skip::Fragment);
     }
-    if bigendian::join2(packet[20], packet[21]) % 8192 != 0 {
-        return skipped(FRAGMENT);
+    at_least(packet, 24)?;
+    let ports = ports_at(packet);
+    match packet[23] {
+        TCP => {
+            at_least(packet, ports + 14)?;
+            let fin = packet[ports + 13] % 2 == 1;
+            let key = key_in(packet, ports);
+            Ok(Carried { fin, key })
+        }
+        UDP => {
+            at_least(packet, ports + 4)?;
+            let key = key_in(packet, ports);
+            Ok(Carried { fin: false, key })
+        }
+        _ => Err(Skip::OtherProtocol),
     }
-    if packet.len() < 24 {
-        return skipped(CUT_SHORT);
-    }
-    if packet[23] == TCP {
-        return of_tcp(packet);
-    }
-    if packet[23] == UDP {
-        return of_udp(packet);
-    }
-    skipped(OTHER_PROTOCOL)
 }
 
 // Where the ports stand: behind the IPv4 header and its options.
@@ -111,55 +105,17 @@ fn ports_at(packet: &[u8]) -> usize
     requires { 24 ≤ length packet.now }
     ensures { result ≡ ports_at packet.now }
 {
-    14 + (packet[14] % 16) as usize * 4
+    14 + usize::from(packet[14] % 16) * 4
 }
 
-// A TCP packet, where its ports and its flags are there.
-fn of_tcp(packet: &[u8]) -> Outcome
-    requires { (24 ≤ length packet.now) × (5 ≤ header_words packet.now) }
-    ensures { result ≡ carried packet.now 14 (has_fin packet.now) }
-{
-    let ports = ports_at(packet);
-    if packet.len() < ports + 14 {
-        return skipped(CUT_SHORT);
-    }
-    becomes(packet, ports, packet[ports + 13] % 2 == 1)
-}
-
-// A UDP packet, where its ports are there.
-fn of_udp(packet: &[u8]) -> Outcome
-    requires { (24 ≤ length packet.now) × (5 ≤ header_words packet.now) }
-    ensures { result ≡ carried packet.now 4 false }
-{
-    let ports = ports_at(packet);
-    if packet.len() < ports + 4 {
-        return skipped(CUT_SHORT);
-    }
-    becomes(packet, ports, false)
-}
-
-// A packet that becomes events, with its key.
-fn becomes(packet: &[u8], ports: usize, fin: bool) -> Outcome
+// The key of a packet whose ports stand at a place.
+fn key_in(packet: &[u8], ports: usize) -> [u8; KEY_BYTES]
     requires { (ports ≡ ports_at packet.now) × ((34 ≤ ports) × (ports + 4 ≤ length packet.now)) }
-    ensures { result ≡ record { reason = emitted; fin = fin; key = key_in packet.now } }
+    ensures { result ≡ key_in packet.now }
 {
-    Outcome {
-        reason: EMITTED,
-        fin: fin,
-        key: [
-            packet[26],
-            packet[27],
-            packet[28],
-            packet[29],
-            packet[30],
-            packet[31],
-            packet[32],
-            packet[33],
-            packet[ports],
-            packet[ports + 1],
-            packet[ports + 2],
-            packet[ports + 3],
-            packet[23],
-        ],
-    }
+    let mut key = [0; KEY_BYTES];
+    key[..8].copy_from_slice(&packet[26..34]);
+    key[8..12].copy_from_slice(&packet[ports..ports + 4]);
+    key[12] = packet[23];
+    key
 }

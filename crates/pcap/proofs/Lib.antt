@@ -1,3 +1,4 @@
 pub mod Files
+pub mod Answered
 pub mod UniqueReaders
 pub mod Unique

@@ -15,6 +15,7 @@ use Rattle.pcap.specs.declared.Tally.{Tally}
 use Rattle.pcap.specs.contracts.open as opening
 use Rattle.pcap.specs.contracts.moved as moved
 use Rattle.pcap.specs.contracts.next as next
+use Rattle.pcap.proofs.Answered.{step_one}
 
 -- readers of the same bytes, place and tally are equal
 same_reader : (r d : Reader) → (r.bytes ≡ d.bytes) × ((r.at ≡ d.at) × (r.tally ≡ d.tally)) → r ≡ d
@@ -44,4 +45,4 @@ module _ {M : Type 1} {𝓤 : Ura M} (𝓛 : Logic 𝓤) (mem : Memory → SProp
 
   pub next_unique : (κs : _) (a : _) (x y : Step) (e e' : _) → ent 𝓤 (conj 𝓤 ((nexts κs a).ensures tt x e) ((nexts κs a).ensures tt y e'))
       (fact 𝓤 (x ≡ y))
-  next_unique κs a x y e e' = follows 𝓤 _ _ _ (λ p q. p ∙ sym q)
+  next_unique κs a x y e e' = follows 𝓤 _ _ _ (λ p q. step_one x y (p ∙ sym q))

@@ -1,13 +1,28 @@
 -- Request [2], "Feeding in captures": what any file of bytes holds as a classic capture, and what a reader gives at any place of it.
-use Rattle.std.specs.Prelude.{ℕ, zero, suc, ◌+◌, ◌-◌, ◌%◌, ◌^◌, Bool, true, false, cond, List, [], ◌∷◌, ◌++◌, map, length, take, drop, replicate, ◌==◌, nat_le, nat_lt, slice_index}
+use Rattle.std.specs.Prelude.{ℕ, zero, suc, ◌+◌, ◌-◌, ◌%◌, ◌^◌, Bool, true, false, cond, List, [], ◌∷◌, ◌++◌, map, length, take, drop, replicate, ◌==◌, nat_le, nat_lt, slice_index, Result, Ok, Err, Option, Some, None}
 use Rattle.bigendian.specs.BigEndian.{number4, number4_at}
 use Rattle.event.specs.Event.{packet_kind, end_kind, event_bytes}
-use Rattle.frames.specs.declared.Outcome.{Outcome}
-use Rattle.frames.specs.Frames.{outcome, emitted, link_type, not_ipv4, fragment, other_protocol, cut_short}
-use Rattle.pcap.specs.declared.Said.{Said}
-use Rattle.pcap.specs.declared.Said.TheVariants.{Event, Skipped, Finished, Refused}
+use Rattle.frames.specs.Frames.{Outcome, outcome, reason_of, emitted, link_type, not_ipv4, fragment, other_protocol, cut_short}
+use Rattle.pcap.specs.declared.Refusal.{Refusal}
+use Rattle.pcap.specs.declared.Refusal.TheVariants.{BadMagic, TruncatedHeader, TruncatedRecord}
+use Rattle.pcap.specs.declared.Said.{Said as Answer}
+use Rattle.pcap.specs.declared.Said.TheVariants.{Event as event-given, Skipped as skip-said, Finished as end-said, Refused as refusal-said}
 use Rattle.pcap.specs.declared.Tally.{Tally}
-use Rattle.pcap.specs.declared.Step.{Step}
+use Rattle.pcap.specs.declared.Step.{Step as Taken}
+
+-- what a call of the reader says, in the numbers of the document
+pub data Said : Type 0 where
+  Event : Said
+  Skipped : (why : ℕ) → Said
+  Finished : Said
+  Refused : (n : ℕ) → Said
+
+-- the answer to a call: what it says, the event record (zeros where there is none), and where the reader is afterwards
+pub record Step : Type 0 where
+  pub said : Said
+  pub event : List ℕ
+  pub at : ℕ
+  pub tally : Tally
 
 -- "truncated packet record 22"
 abbrev pub short_record : ℕ
@@ -188,3 +203,33 @@ refusal_at f at =
     cond (header_refusal f == 0)
     (cond (nat_lt at (length f)) (cond (whole (low_first f) (drop at f)) 0 short_record) 0)
     (header_refusal f)
+
+-- document 01: "If an answer is an enum, a definition gives this paper's number and values for each of its cases." A refusal's number is of
+-- "bad magic 20, truncated file header 21 .., truncated packet record 22"; 0 where there is none
+abbrev pub number_of : Refusal → ℕ
+number_of BadMagic = 20
+number_of TruncatedHeader = 21
+number_of TruncatedRecord = short_record
+
+abbrev pub refusal_of : {A : Type 0} → Result A Refusal → ℕ
+refusal_of (Ok x) = 0
+refusal_of (Err r) = number_of r
+
+abbrev pub refusal_found : Option Refusal → ℕ
+refusal_found None = 0
+refusal_found (Some r) = number_of r
+
+abbrev pub said_of : Answer → Said
+said_of (event-given e) = Event
+said_of (skip-said why) = Skipped (reason_of why)
+said_of end-said = Finished
+said_of (refusal-said r) = Refused (number_of r)
+
+abbrev pub event_of : Answer → List ℕ
+event_of (event-given e) = e
+event_of (skip-said why) = replicate event_bytes 0
+event_of end-said = replicate event_bytes 0
+event_of (refusal-said r) = replicate event_bytes 0
+
+abbrev pub step_of : Taken → Step
+step_of s = record { said = said_of s.said; event = event_of s.said; at = s.at; tally = s.tally }

@@ -3,27 +3,50 @@
 #![tactic(auto)]
 
 ghost use Rattle.std.specs.Prelude.{◌≡◌};
-ghost use Rattle.pcap.specs.Captures.{step_at, nothing as nothing_yet};
+ghost use Rattle.pcap.specs.Captures.{step_at, step_of, number_of, nothing as nothing_yet};
 
 mod file;
 mod steps;
 
-pub use file::{captured_length, low_first};
+use event::EVENT_BYTES;
+pub use file::{HEADER_BYTES, RECORD_BYTES, captured_length, low_first};
+use frames::Skip;
 pub use steps::{refusal_at, step_at};
 
-// What a call of the reader says: that it gives an event; that a packet was skipped, and why; that the capture has ended;
-// or the number by which it is refused.
-#[derive(Clone, Copy)]
+// Why a capture is refused.
+#[derive(Clone, Copy, PartialEq, Eq, Debug)]
+pub enum Refusal {
+    BadMagic,
+    TruncatedHeader,
+    TruncatedRecord,
+}
+
+impl Refusal {
+    // Its number.
+    pub fn number(self) -> u8
+        ensures { result ≡ number_of self }
+    {
+        match self {
+            Refusal::BadMagic => 20,
+            Refusal::TruncatedHeader => 21,
+            Refusal::TruncatedRecord => 22,
+        }
+    }
+}
+
+// What a call of the reader says: the event record that it gives; that a packet was skipped, and why; that the capture has
+// ended; or why it is refused.
+#[derive(Clone, Copy, PartialEq, Eq, Debug)]
 pub enum Said {
-    Event,
-    Skipped(u8),
+    Event([u8; EVENT_BYTES]),
+    Skipped(Skip),
     Finished,
-    Refused(u8),
+    Refused(Refusal),
 }
 
 // What a reader has given so far: the packets that it read, those that became events, those that were skipped for each
 // reason. `due`: the packet at its place has FIN; its kind 1 was given, and its kind 2 is next.
-#[derive(Clone, Copy)]
+#[derive(Clone, Copy, PartialEq, Eq, Debug)]
 pub struct Tally {
     pub due: bool,
     pub read: u64,
@@ -35,11 +58,10 @@ pub struct Tally {
     pub short: u64,
 }
 
-// The answer to a call: what it says, the event record (zeros where there is none), and where the reader is afterwards.
-#[derive(Clone, Copy)]
+// The answer to a call: what it says, and where the reader is afterwards.
+#[derive(Clone, Copy, PartialEq, Eq, Debug)]
 pub struct Step {
     pub said: Said,
-    pub event: [u8; 16],
     pub at: usize,
     pub tally: Tally,
 }
@@ -74,14 +96,14 @@ pub fn open<'a>(bytes: &'a [u8], tally: Tally) -> Reader<'a>
 {
     Reader {
         bytes,
-        at: 24,
+        at: HEADER_BYTES,
         tally,
     }
 }
 
 // The next event, or why there is none, and where the reader is then.
 pub fn next<'a>(reader: Reader<'a>) -> Step
-    ensures { result ≡ step_at reader.entry.bytes.now reader.entry.at reader.entry.tally }
+    ensures { step_of result ≡ step_at reader.entry.bytes.now reader.entry.at reader.entry.tally }
 {
     step_at(reader.bytes, reader.at, reader.tally)
 }
@@ -91,8 +113,8 @@ pub fn moved<'a>(reader: Reader<'a>, at: usize, tally: Tally) -> Reader<'a>
     ensures { (result.bytes ≡ reader.entry.bytes) × ((result.at ≡ at) × (result.tally ≡ tally)) }
 {
     Reader {
-        bytes: reader.bytes,
         at,
         tally,
+        ..reader
     }
 }

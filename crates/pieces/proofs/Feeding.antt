@@ -1,28 +1,12 @@
--- A piece that is taken in: the parts of the answer, put together.
-use Rattle.std.proofs.Common.{◌≡◌, ℕ, ◌+◌, ◌-◌, ◌%◌, ◌^◌, min, eqb, ltb, leb, List, length, take, drop, sym, refl, ◌∙◌, arith, take_all, leb-false, leb-true}
+-- What a capture that has ended is refused by: what stands first in its window.
+use Rattle.std.proofs.Common.{◌≡◌, ℕ, ◌+◌, ◌%◌, ◌^◌, min, false, cond, eqb, ltb, leb, Option, Some, None, List, length, take, drop, sym, refl, ap, ◌∙◌, arith, take_all, leb-false, leb-true, eq-eqb, ne_eqb}
 use Rattle.sets.proofs.Cases.{both}
-use Rattle.frames.specs.declared.Outcome.{Outcome}
-use Rattle.frames.specs.Frames.{outcome, emitted}
+use Rattle.frames.specs.Frames.{Outcome, outcome, emitted}
 use Rattle.pcap.specs.declared.Tally.{Tally}
-use Rattle.pcap.specs.Captures.{header_refusal, low_first, ethernet, whole, packet, record_size, step_at, record_at, meets, refusal_at}
-use Rattle.pieces.specs.declared.Filled.{Filled}
-use Rattle.pieces.specs.declared.Kept.{Kept}
-use Rattle.pieces.specs.declared.Stream.{Stream}
-use Rattle.pieces.specs.declared.Advanced.{Advanced}
-use Rattle.pieces.specs.Pieces.{Ran, filled_by, settled_kept}
-use Rattle.pieces.specs.Streams.{onwards, last_said}
-
--- the window is read, settled, and its records counted
-pub window_answer : (b : List ℕ) (s : Stream) (r : Ran) (done : Filled) (kept : Kept) (records before : ℕ)
-    → done ≡ filled_by r → kept ≡ settled_kept b s.have done.at → records ≡ done.at - 24 → before ≡ (s.before + records) % 2 ^ 64
-    → ◌≡◌ {A = Advanced}
-    (record {
-      stream =
-          record { have = kept.have; pass = kept.pass; longer = kept.longer; before = before; tally = done.tally; said = done.said };
-      filled = done.filled;
-    })
-    (record { stream = onwards s r (settled_kept b s.have r.at); filled = (filled_by r).filled })
-window_answer b s r done kept records before e k n t = rw (t, n, k, e) refl
+use Rattle.pcap.specs.declared.Refusal.{Refusal}
+use Rattle.pcap.specs.declared.Refusal.TheVariants.{BadMagic, TruncatedHeader, TruncatedRecord}
+use Rattle.pcap.specs.Captures.{number_of, refusal_found, header_refusal, low_first, ethernet, whole, packet, record_size, step_at, record_at, meets, refusal_at}
+use Rattle.pieces.specs.Streams.{Stream, ending, last_said}
 
 -- a window that would end behind the buffer ends with it
 pub take_lower : (n m : ℕ) (b : List ℕ) → m ≡ min n (length b) → take m b ≡ take n b
@@ -52,3 +36,34 @@ said_first f at t =
     (λ w. rw w refl)))
     (λ m. rw m refl)))
     (λ h. rw h refl)
+
+-- ---- what a capture that has ended is refused by, by what stands first in the window
+
+number_some : (r : Refusal) → eqb (number_of r) 0 ≡ false
+number_some BadMagic = refl
+number_some TruncatedHeader = refl
+number_some TruncatedRecord = refl
+
+module _ (b : List ℕ) (s : Stream) (found : Option Refusal) (have : ℕ) (h : have ≡ min s.have (length b))
+    (e : refusal_found found ≡ refusal_at (take have b) 24) where
+  first-is : refusal_found found ≡ last_said (step_at (take s.have b) 24 s.tally).said
+  first-is = e ∙ ap (λ (l : List ℕ). refusal_at l 24) (take_lower s.have have b h) ∙ said_first (take s.have b) 24 s.tally
+
+  pub ending_some : (r : Refusal) → found ≡ Some r
+      → record { refusal = number_of r; at = cond (eqb (number_of r) 22) ((s.before + 24) % 2 ^ 64) 0 } ≡ ending b s
+  unfolding ending
+  ending_some r is =
+      let n : last_said (step_at (take s.have b) 24 s.tally).said ≡ number_of r = sym first-is ∙ ap refusal_found is in
+      rw (n, number_some r) refl
+
+  pub ending_short : found ≡ None → (s.pass ≡ 0 → ⊥) → record { refusal = 22; at = (s.before + 24) % 2 ^ 64 } ≡ ending b s
+  unfolding ending
+  ending_short is some =
+      let n : last_said (step_at (take s.have b) 24 s.tally).said ≡ 0 = sym first-is ∙ ap refusal_found is in
+      rw (n, ne_eqb s.pass 0 some) refl
+
+  pub ending_none : found ≡ None → s.pass ≡ 0 → record { refusal = 0; at = 0 } ≡ ending b s
+  unfolding ending
+  ending_none is none =
+      let n : last_said (step_at (take s.have b) 24 s.tally).said ≡ 0 = sym first-is ∙ ap refusal_found is in
+      rw (n, eq-eqb s.pass 0 none) refl

@@ -1,36 +1,34 @@
--- Filling a buffer turn by turn: no turn changes what the loop comes to; once the reader isn't called again, that is what stands there; and
--- each turn brings the end nearer.
-use Rattle.std.proofs.Common.{◌≡◌, ℕ, suc, ◌+◌, ◌-◌, ◌*◌, ◌/◌, ◌<◌, ◌≤◌, true, false, cond, List, [], ◌++◌, length, take, drop, sym, refl, ap, ◌∙◌, append_assoc, append-nil, add-zero, zero-add, arith, take-append-drop, take_all, drop-drop, leb-false, leb-true}
-use lib.Seq.{paste, take-paste, drop-paste, length-paste}
-use Rattle.sets.proofs.Cases.{both, clash}
-use Rattle.pcap.specs.declared.Said.{Said}
-use Rattle.pcap.specs.declared.Said.TheVariants.{Event, Skipped, Finished, Refused}
+-- Filling a buffer turn by turn: no turn changes what the loop comes to; where it stops, that is what stands there; and each turn brings the
+-- end nearer.
+use Rattle.std.proofs.Common.{◌≡◌, ℕ, suc, ◌+◌, ◌-◌, ◌*◌, ◌/◌, ◌<◌, ◌≤◌, List, [], ◌++◌, length, take, drop, sym, refl, ap, ◌∙◌, append_assoc, append-nil, add-zero, zero-add, arith, take-append-drop, drop-drop, length-append, length-drop, length-take-le, true}
+use Rattle.std.proofs.lemmas.List.{drop_at}
+use lib.Seq.{take_at}
+use borrow.Rule.Slice.PartMut.{put_mid, Post-is}
+use Rattle.frames.specs.Frames.{reason_of}
+use Rattle.frames.specs.declared.Skip.{Skip}
+use Rattle.pcap.specs.declared.Refusal.{Refusal}
+use Rattle.pcap.specs.declared.Said.TheVariants.{Event as event-given, Skipped as skip-said, Finished as end-said, Refused as refusal-said}
+use Rattle.pcap.specs.declared.Step.{Step as Taken}
 use Rattle.pcap.specs.declared.Tally.{Tally}
-use Rattle.pcap.specs.declared.Step.{Step}
-use Rattle.pcap.specs.Captures.{step_at}
-use Rattle.pieces.specs.declared.Filled.{Filled}
-use Rattle.pieces.specs.Pieces.{Ran, stopped, with_event, read_on, enough, room_for, joined, filled_by, written}
-use Rattle.pieces.specs.Turns.{begun, says_more, calls_again, step_taken, buffer_taken}
-use Rattle.pieces.proofs.Turns.{ahead, moves_on, turn_full, turn_event, turn_skipped, turn_finished, turn_refused}
+use Rattle.pcap.specs.Captures.{Said, Event, Skipped, Finished, Refused, Step, number_of, said_of, event_of, step_of, step_at}
+use Rattle.pieces.specs.Pieces.{Ran, Filled, stopped, with_event, read_on, enough, room_for, joined, filled_by, written}
+use Rattle.pieces.proofs.Turns.{ahead, goes_on, moves_on, turn_full, turn_event, turn_skipped, turn_finished, turn_refused}
 
 -- what is answered, and the buffer: what a loop that has filled n bytes comes to, when the reader gives r from there on
-abbrev pub Result : Type 0
-Result = Filled × List ℕ
+abbrev pub Both : Type 0
+Both = Filled × List ℕ
 
-abbrev ended : ℕ → List ℕ → Ran → Result
+abbrev ended : ℕ → List ℕ → Ran → Both
 ended n out r = (
   record { said = r.said; at = r.at; tally = r.tally; filled = n + 16 * length r.events },
   (take n out ++ joined r.events) ++ drop (n + 16 * length r.events) out,
 )
 
--- what it comes to from where it is, and what the contract of `fill_events` says
-abbrev pub comes_to : List ℕ → Filled → List ℕ → Result
-comes_to f d out =
-    cond (says_more d.said)
-    (ended d.filled out (read_on (enough f) ((length out - d.filled) / 16) f d.at d.tally))
-    (d, out)
+-- what it comes to from where the reader is, and what the contract of `fill_events` says
+abbrev pub comes_to : List ℕ → ℕ → Tally → ℕ → List ℕ → Both
+comes_to f at t n out = ended n out (read_on (enough f) ((length out - n) / 16) f at t)
 
-abbrev pub promised : List ℕ → ℕ → Tally → List ℕ → Result
+abbrev pub promised : List ℕ → ℕ → Tally → List ℕ → Both
 promised f at t out = (filled_by (read_on (enough f) (room_for out) f at t), written (read_on (enough f) (room_for out) f at t) out)
 
 -- ---- at the beginning
@@ -39,35 +37,50 @@ first out r =
     let n = 16 * length r.events in
     ap (λ (k : ℕ). (record { said = r.said; at = r.at; tally = r.tally; filled = k }, joined r.events ++ drop k out)) (zero-add n)
 
-pub begins : (f : List ℕ) (at : ℕ) (t : Tally) (out : List ℕ) → comes_to f (begun at t) out ≡ promised f at t out
+pub begins : (f : List ℕ) (at : ℕ) (t : Tally) (out : List ℕ) → comes_to f at t 0 out ≡ promised f at t out
 begins f at t out =
     let all : length out - 0 ≡ length out = omega arith in
     ap (λ (n : ℕ). ended 0 out (read_on (enough f) (n / 16) f at t)) all ∙ first out (read_on (enough f) (room_for out) f at t)
 
 -- ---- a turn
 
--- an event is put behind the first n bytes
+-- the buffer with an event put behind its first n bytes
+abbrev pub put : ℕ → List ℕ → List ℕ → List ℕ
+put n e out = take n out ++ (e ++ drop (n + 16) out)
+
+put_regrouped : (n : ℕ) (out e : List ℕ) → put n e out ≡ (take n out ++ e) ++ drop (n + 16) out
+put_regrouped n out e = sym (append_assoc (take n out) e (drop (n + 16) out))
+
+front_length : (n : ℕ) (out e : List ℕ) → n + 16 ≤ length out → length e ≡ 16 → length (take n out ++ e) ≡ n + 16
+front_length n out e room sized =
+    length-append (take n out) e ∙ omega (arith, length-take-le n out (omega (arith, room)), sized)
+
+put_before : (n : ℕ) (out e : List ℕ) → n + 16 ≤ length out → length e ≡ 16 → take (n + 16) (put n e out) ≡ take n out ++ e
+put_before n out e room sized =
+    ap (take (n + 16)) (put_regrouped n out e)
+    ∙ take_at (take n out ++ e) (drop (n + 16) out) (n + 16) (front_length n out e room sized)
+
+put_behind : (n k : ℕ) (out e : List ℕ) → n + 16 ≤ length out → length e ≡ 16 → drop ((n + 16) + k) (put n e out) ≡ drop ((n + 16) + k) out
+put_behind n k out e room sized =
+    sym (drop-drop k (n + 16) (put n e out))
+    ∙ ap (λ (l : List ℕ). drop k (drop (n + 16) l)) (put_regrouped n out e)
+    ∙ ap (drop k) (drop_at (take n out ++ e) (drop (n + 16) out) (n + 16) (front_length n out e room sized))
+    ∙ drop-drop k (n + 16) out
+
 event_put : (n : ℕ) (out e : List ℕ) (r : Ran) → n + 16 ≤ length out → length e ≡ 16
-    → ended (n + 16) (paste out n e 16) r ≡ ended n out (with_event e r)
+    → ended (n + 16) (put n e out) r ≡ ended n out (with_event e r)
 unfolding joined
 event_put n out e r room sized =
-    let k = 16 * length r.events in
-    let more : (n + 16) + k ≡ n + 16 * suc (length r.events) = omega arith in
-    let in_buffer : n ≤ length out = omega arith in
-    let in-event : 16 ≤ length e = omega arith in
-    let at_most : length e ≤ 16 = omega arith in
-    let put : take (n + 16) (paste out n e 16) ≡ take n out ++ e =
-    take-paste out n e 16 in_buffer in-event ∙ ap (λ (l : List ℕ). take n out ++ l) (take_all 16 e at_most) in
-    let behind : drop ((n + 16) + k) (paste out n e 16) ≡ drop ((n + 16) + k) out =
-    sym (drop-drop k (n + 16) (paste out n e 16)) ∙ ap (drop k) (drop-paste out n e 16 in_buffer in-event) ∙ drop-drop k (n + 16) out in
-    ap (λ (l : List ℕ). (record { said = r.said; at = r.at; tally = r.tally; filled = (n + 16) + k }, l))
-    (ap (λ (l : List ℕ). (l ++ joined r.events) ++ drop ((n + 16) + k) (paste out n e 16)) put
-    ∙ ap (λ (l : List ℕ). ((take n out ++ e) ++ joined r.events) ++ l) behind
-    ∙ ap (λ (l : List ℕ). l ++ drop ((n + 16) + k) out) (append_assoc (take n out) e (joined r.events)))
-    ∙ ap (λ (m : ℕ). (
-      record { said = r.said; at = r.at; tally = r.tally; filled = m },
-      (take n out ++ (e ++ joined r.events)) ++ drop m out,
-    )) more
+    let more : (n + 16) + 16 * length r.events ≡ n + 16 * suc (length r.events) = omega arith in
+    rw
+    (put_before n out e room sized, put_behind n (16 * length r.events) out e room sized, append_assoc (take n out) e (joined r.events), more)
+    refl
+
+-- the same, as the code puts it
+pub put_is : (n : ℕ) (out new ev : List ℕ) → new ≡ ev → put_mid n ((n + 16) - n) out new ≡ put n ev out
+put_is n out new ev e =
+    ap (λ (l : List ℕ). take n out ++ (new ++ l)) (Post-is n (n + 16) out (omega arith))
+    ∙ ap (λ (l : List ℕ). take n out ++ (l ++ drop (n + 16) out)) e
 
 -- nothing more is put
 stop_is : (n : ℕ) (out : List ℕ) (x : Said) (at : ℕ) (t : Tally)
@@ -78,81 +91,73 @@ stop_is n out x at t =
     ∙ ap (λ (l : List ℕ). (record { said = x; at = at; tally = t; filled = n }, l ++ drop n out)) (append-nil (take n out))
     ∙ ap (λ (l : List ℕ). (record { said = x; at = at; tally = t; filled = n }, l)) (take-append-drop n out)
 
-module _ (f : List ℕ) (at : ℕ) (t : Tally) (n : ℕ) (out : List ℕ) (room : n + 16 ≤ length out) where
-  abbrev s : Step
-  s = step_at f at t
+-- a call's answer, as the code has it
+module _ (f : List ℕ) (at : ℕ) (t : Tally) (s : Taken) (e : step_of s ≡ step_at f at t) where
+  says : (x : Said) → said_of s.said ≡ x → (step_at f at t).said ≡ x
+  says x is = ap (λ (u : Step). u.said) (sym e) ∙ is
 
-  abbrev k : ℕ
-  k = (length out - (n + 16)) / 16
+  place : (step_at f at t).at ≡ s.at
+  place = ap (λ (u : Step). u.at) (sym e)
 
-  one_more_turn : (length out - n) / 16 ≡ suc k
-  one_more_turn = omega (arith, room)
+  sums : (step_at f at t).tally ≡ s.tally
+  sums = ap (λ (u : Step). u.tally) (sym e)
 
-  by_said : (x : Said) → s.said ≡ x → length s.event ≡ 16
-      → comes_to f (step_taken n s) (buffer_taken n s out) ≡ ended n out (read_on (enough f) (suc k) f at t)
-  by_said Event e sized = rw e
-      (ap (λ (m : ℕ). ended (n + 16) (paste out n s.event 16) (read_on (enough f) ((m - (n + 16)) / 16) f s.at s.tally))
-      (length-paste out n s.event 16 room (omega (arith, sized)))
-      ∙ event_put n out s.event (read_on (enough f) k f s.at s.tally) room sized
-      ∙ ap (ended n out) (sym (turn_event k f at t e)))
-  by_said (Skipped why) e sized = rw e
-      (ap (λ (m : ℕ). ended n out (read_on (enough f) m f s.at s.tally)) one_more_turn
-      ∙ ap (ended n out) (sym (turn_skipped k f at t why e)))
-  by_said Finished e sized = rw e (sym (ap (ended n out) (turn_finished k f at t e) ∙ stop_is n out Finished s.at s.tally))
-  by_said (Refused x) e sized = rw e (sym (ap (ended n out) (turn_refused k f at t x e) ∙ stop_is n out (Refused x) s.at s.tally))
+  -- the reader is nearer to its end where it is called again
+  pub nearer_again : goes_on (said_of s.said) ≡ true → ahead f s.at s.tally < ahead f at t
+  nearer_again g = rw (sym place, sym sums) (moves_on f at t (rw (says (said_of s.said) refl) g))
 
--- where the reader is called again, there is room, and it has said so
-more_room : (d : Filled) (n : ℕ) → calls_again d n ≡ true → (says_more d.said ≡ true) × (d.filled + 16 ≤ n)
-more_room d n g =
-    both (says_more d.said) (λ m. (m, leb-true (d.filled + 16) n (rw m at g))) (λ m. clash g (rw m refl))
+  module _ (n : ℕ) (out : List ℕ) (room : n + 16 ≤ length out) where
+    abbrev k : ℕ
+    k = (length out - (n + 16)) / 16
 
-pub room_there : (d : Filled) (n : ℕ) → calls_again d n ≡ true → d.filled + 16 ≤ n
-room_there d n g = (more_room d n g).1
+    one_more_turn : (length out - n) / 16 ≡ suc k
+    one_more_turn = omega (arith, room)
 
-pub turned : (f : List ℕ) (d : Filled) (out : List ℕ) → calls_again d (length out) ≡ true
-    → length (step_at f d.at d.tally).event ≡ 16
-    → comes_to f (step_taken d.filled (step_at f d.at d.tally)) (buffer_taken d.filled (step_at f d.at d.tally) out)
-    ≡ comes_to f d out
-turned f d out g sized =
-    let m = more_room d (length out) g in
-    by_said f d.at d.tally d.filled out m.1 _ refl sized
-    ∙ ap (λ (c : ℕ). ended d.filled out (read_on (enough f) c f d.at d.tally))
-    (sym (one_more_turn f d.at d.tally d.filled out m.1))
-    ∙ rw m.0
+    counted-turns : comes_to f at t n out ≡ ended n out (read_on (enough f) (suc k) f at t)
+    counted-turns = ap (λ (c : ℕ). ended n out (read_on (enough f) c f at t)) one_more_turn
 
--- ---- the end
-says_event : (x : Said) → says_more x ≡ true → x ≡ Event
-says_event Event e = refl
-says_event (Skipped why) e = clash e refl
-says_event Finished e = clash e refl
-says_event (Refused n) e = clash e refl
+    pub put_length : (ev : List ℕ) → length ev ≡ 16 → length (put n ev out) ≡ length out
+    put_length ev sized =
+        simp (length-append, length-drop) (omega (arith, length-take-le n out (omega (arith, room)), sized))
 
-pub over : (f : List ℕ) (d : Filled) (out : List ℕ) → calls_again d (length out) ≡ false → comes_to f d out ≡ (d, out)
-over f d out g =
-    both (says_more d.said)
-    (λ m.
-    let none : length out < d.filled + 16 = leb-false (d.filled + 16) (length out) (rw m at g) in
-    let no_room : (length out - d.filled) / 16 ≡ 0 = omega (arith, none) in
-    rw m
-    (ap (λ (c : ℕ). ended d.filled out (read_on (enough f) c f d.at d.tally)) no_room
-    ∙ ap (ended d.filled out) (turn_full (enough f) f d.at d.tally)
-    ∙ stop_is d.filled out Event d.at d.tally
-    ∙ ap (λ (x : Said). (record { said = x; at = d.at; tally = d.tally; filled = d.filled }, out)) (sym (says_event d.said m))))
-    (λ m. rw m refl)
+    pub event_turn : (ev : List ℕ) → s.said ≡ event-given ev → length ev ≡ 16
+        → comes_to f s.at s.tally (n + 16) (put n ev out) ≡ comes_to f at t n out
+    event_turn ev is sized =
+        let given : (step_at f at t).event ≡ ev = ap (λ (u : Step). u.event) (sym e) ∙ ap event_of is in
+        ap (λ (m : ℕ). ended (n + 16) (put n ev out) (read_on (enough f) ((m - (n + 16)) / 16) f s.at s.tally)) (put_length ev sized)
+        ∙ event_put n out ev (read_on (enough f) k f s.at s.tally) room sized
+        ∙ ap (ended n out)
+        (rw (sym given, sym place, sym sums) (sym (turn_event k f at t (says Event (ap said_of is)))))
+        ∙ sym counted-turns
 
--- ---- each turn brings the end nearer
+    pub skipped_turn : (why : Skip) → s.said ≡ skip-said why → comes_to f s.at s.tally n out ≡ comes_to f at t n out
+    skipped_turn why is =
+        ap (λ (c : ℕ). ended n out (read_on (enough f) c f s.at s.tally)) one_more_turn
+        ∙ ap (ended n out)
+        (rw (sym place, sym sums) (sym (turn_skipped k f at t (reason_of why) (says (Skipped (reason_of why)) (ap said_of is)))))
+        ∙ sym counted-turns
 
--- the turns that may still come
-abbrev pub turns_left : List ℕ → Filled → ℕ
-turns_left f d = cond (says_more d.said) (suc (ahead f d.at d.tally)) 0
+    pub finished_turn : s.said ≡ end-said
+        → ◌≡◌ {A = Both} (record { said = Finished; at = s.at; tally = s.tally; filled = n }, out) (comes_to f at t n out)
+    finished_turn is =
+        sym (stop_is n out Finished s.at s.tally)
+        ∙ ap (ended n out) (rw (sym place, sym sums) (sym (turn_finished k f at t (says Finished (ap said_of is)))))
+        ∙ sym counted-turns
 
-after : (f : List ℕ) (at : ℕ) (t : Tally) (n : ℕ) (x : Said) → (step_at f at t).said ≡ x
-    → turns_left f (step_taken n (step_at f at t)) < suc (ahead f at t)
-after f at t n Event e = rw e (omega (arith, moves_on f at t (rw e refl)))
-after f at t n (Skipped why) e = rw e (omega (arith, moves_on f at t (rw e refl)))
-after f at t n Finished e = rw e (omega arith)
-after f at t n (Refused x) e = rw e (omega arith)
+    pub refused_turn : (r : Refusal) → s.said ≡ refusal-said r
+        → ◌≡◌ {A = Both} (record { said = Refused (number_of r); at = s.at; tally = s.tally; filled = n }, out) (comes_to f at t n out)
+    refused_turn r is =
+        sym (stop_is n out (Refused (number_of r)) s.at s.tally)
+        ∙ ap (ended n out)
+        (rw (sym place, sym sums) (sym (turn_refused k f at t (number_of r) (says (Refused (number_of r)) (ap said_of is)))))
+        ∙ sym counted-turns
 
-pub fewer : (f : List ℕ) (d : Filled) (n : ℕ) → calls_again d n ≡ true
-    → turns_left f (step_taken d.filled (step_at f d.at d.tally)) < turns_left f d
-fewer f d n g = rw (more_room d n g).0 (after f d.at d.tally d.filled _ refl)
+-- ---- no room for another event
+pub full_now : (f : List ℕ) (at : ℕ) (t : Tally) (n : ℕ) (out : List ℕ) → length out - n < 16
+    → ◌≡◌ {A = Both} (record { said = Event; at = at; tally = t; filled = n }, out) (comes_to f at t n out)
+full_now f at t n out none =
+    let no_room : (length out - n) / 16 ≡ 0 = omega (arith, none) in
+    sym
+    (ap (λ (c : ℕ). ended n out (read_on (enough f) c f at t)) no_room
+    ∙ ap (ended n out) (turn_full (enough f) f at t)
+    ∙ stop_is n out Event at t)

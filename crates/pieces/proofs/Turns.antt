@@ -2,14 +2,10 @@
 -- enough. For a loop over the reader: what one more turn comes to.
 use Rattle.std.proofs.Common.{◌≡◌, ℕ, zero, suc, ◌+◌, ◌-◌, ◌*◌, ◌<◌, ◌≤◌, Bool, true, false, cond, eqb, ltb, List, length, drop, refl, ap, ◌∙◌, not-suc-le-zero, arith, length-drop, ltb-true}
 use Rattle.sets.proofs.Cases.{both, clash}
-use Rattle.frames.specs.declared.Outcome.{Outcome}
-use Rattle.frames.specs.Frames.{outcome, emitted}
-use Rattle.pcap.specs.declared.Said.{Said}
-use Rattle.pcap.specs.declared.Said.TheVariants.{Event, Skipped, Finished, Refused}
+use Rattle.frames.specs.Frames.{Outcome, outcome, emitted}
 use Rattle.pcap.specs.declared.Tally.{Tally}
-use Rattle.pcap.specs.declared.Step.{Step}
 use Rattle.pcap.proofs.Files.{whole_there}
-use Rattle.pcap.specs.Captures.{header_refusal, low_first, ethernet, whole, packet, record_size, short_record, step_at, record_at, with_one, meets, silent}
+use Rattle.pcap.specs.Captures.{Said, Event, Skipped, Finished, Refused, Step, header_refusal, low_first, ethernet, whole, packet, record_size, short_record, step_at, record_at, with_one, meets, silent}
 use Rattle.pieces.specs.Pieces.{Ran, stopped, with_event, by_said, read_on, enough}
 
 -- ---- the reader moves on

@@ -3,12 +3,12 @@
 use Rattle.std.specs.Prelude.{ℕ, zero, suc, ◌+◌, ◌-◌, ◌*◌, ◌/◌, Bool, false, cond, List, [], ◌∷◌, ◌++◌, length, take, drop, nat_le, nat_lt, slice_range}
 use Rattle.spans.specs.Spans.{shifted}
 use Rattle.event.specs.Event.{event_bytes}
-use Rattle.pcap.specs.declared.Said.{Said}
-use Rattle.pcap.specs.declared.Said.TheVariants.{Event, Skipped, Finished, Refused}
 use Rattle.pcap.specs.declared.Tally.{Tally}
-use Rattle.pcap.specs.Captures.{low_first, captured, record_size, header_bytes, record_bytes, step_at}
+use Rattle.pcap.specs.Captures.{Said, Event, Skipped, Finished, Refused, number_of, low_first, captured, record_size, header_bytes, record_bytes, step_at}
+use Rattle.pieces.specs.declared.Stop.{Stop}
+use Rattle.pieces.specs.declared.Stop.TheVariants.{Full as full-stop, Finished as end-stop, Refused as refusal-stop}
 use Rattle.pieces.specs.declared.Kept.{Kept}
-use Rattle.pieces.specs.declared.Filled.{Filled}
+use Rattle.pieces.specs.declared.Filled.{Filled as Put}
 
 -- what a reader has given, and where it is then: the events in order; what it said last; its place and its sums
 pub record Ran : Type 0 where
@@ -54,7 +54,13 @@ unfoldable pub joined : List (List ℕ) → List ℕ
 joined [] = []
 joined (e ∷ es) = e ++ joined es
 
--- what filling a buffer with event records comes to: the reader's answer, and the buffer
+-- what filling a buffer with event records comes to: the reader's answer, and the buffer. It says `Event` where the buffer is full
+pub record Filled : Type 0 where
+  pub said : Said
+  pub at : ℕ
+  pub tally : Tally
+  pub filled : ℕ
+
 abbrev pub filled_by : Ran → Filled
 filled_by r = record { said = r.said; at = r.at; tally = r.tally; filled = event_bytes * length r.events }
 
@@ -106,3 +112,12 @@ settled_kept b have at =
     cond (in_order b have at)
     (let b' = carried b have at in cond (too_long b' (have - at)) (kept_first (have - at) b') (kept_all (header_bytes + (have - at))))
     (kept_all have)
+
+-- document 01: "If an answer is an enum, a definition gives this paper's number and values for each of its cases."
+abbrev pub stop_said : Stop → Said
+stop_said full-stop = Event
+stop_said end-stop = Finished
+stop_said (refusal-stop r) = Refused (number_of r)
+
+abbrev pub filled_of : Put → Filled
+filled_of d = record { said = stop_said d.stop; at = d.at; tally = d.tally; filled = d.filled }

@@ -1,14 +1,32 @@
 -- Request [2]: a capture that comes in pieces. Each piece stands behind the window in the buffer when it is taken in; what it completes becomes
 -- event records in a second buffer.
-use Rattle.std.specs.Prelude.{ℕ, ◌+◌, ◌-◌, ◌%◌, ◌^◌, cond, List, length, take, ◌==◌, nat_le, nat_lt}
-use Rattle.pcap.specs.declared.Said.{Said}
-use Rattle.pcap.specs.declared.Said.TheVariants.{Event, Skipped, Finished, Refused}
-use Rattle.pcap.specs.Captures.{header_bytes, short_record, nothing, step_at}
-use Rattle.pieces.specs.declared.Stream.{Stream}
-use Rattle.pieces.specs.declared.Advanced.{Advanced}
-use Rattle.pieces.specs.declared.Ending.{Ending}
+use Rattle.std.specs.Prelude.{ℕ, ◌+◌, ◌-◌, ◌%◌, ◌^◌, cond, List, length, take, ◌==◌, nat_le, nat_lt, Option, Some, None}
+use Rattle.pcap.specs.declared.Tally.{Tally}
+use Rattle.pcap.specs.Captures.{Said, Event, Skipped, Finished, Refused, number_of, header_bytes, short_record, nothing, step_at}
+use Rattle.pieces.specs.declared.Stream.{Stream as Coming}
+use Rattle.pieces.specs.declared.Advanced.{Advanced as Onward}
+use Rattle.pieces.specs.declared.Ending.{Ending as Refused-at}
 use Rattle.pieces.specs.declared.Kept.{Kept}
-use Rattle.pieces.specs.Pieces.{Ran, read_on, enough, room_for, filled_by, written, settled_buffer, settled_kept}
+use Rattle.pieces.specs.Pieces.{Ran, read_on, enough, room_for, filled_by, written, settled_buffer, settled_kept, stop_said}
+
+-- a capture of which pieces have come: the window, what is passed over, what is done, and what the reader said last; then how many bytes of
+-- event records stand in the second buffer
+pub record Stream : Type 0 where
+  pub have : ℕ
+  pub pass : ℕ
+  pub longer : ℕ
+  pub before : ℕ
+  pub tally : Tally
+  pub said : Said
+
+pub record Advanced : Type 0 where
+  pub stream : Stream
+  pub filled : ℕ
+
+-- what a capture that has ended is refused by, 0 where it isn't, and the byte where the refusal stands
+pub record Ending : Type 0 where
+  pub refusal : ℕ
+  pub at : ℕ
 
 -- nothing has come
 abbrev pub beginning : Stream
@@ -98,3 +116,15 @@ unfoldable pub ending : List ℕ → Stream → Ending
 ending b s =
     let n = last_refusal b s in
     record { refusal = n; at = cond (n == short_record) ((s.before + header_bytes) % 2 ^ 64) 0 }
+
+-- document 01: "If an answer is an enum, a definition gives this paper's number and values for each of its cases."
+abbrev pub stream_of : Coming → Stream
+stream_of s =
+    record { have = s.have; pass = s.pass; longer = s.longer; before = s.before; tally = s.tally; said = stop_said s.stop }
+
+abbrev pub advanced_of : Onward → Advanced
+advanced_of a = record { stream = stream_of a.stream; filled = a.filled }
+
+abbrev pub ending_of : Option Refused-at → Ending
+ending_of None = record { refusal = 0; at = 0 }
+ending_of (Some e) = record { refusal = number_of e.refusal; at = e.at }

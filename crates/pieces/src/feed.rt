@@ -1,17 +1,15 @@
 // A capture that comes in pieces: each stands behind the window when it is taken in, and what it completes becomes event
 // records.
-ghost use Rattle.std.specs.Prelude.{◌≡◌, ◌+◌, ◌-◌, ◌%◌, ◌^◌, ◌≤◌, min, length, if◌then◌else◌, nat_eq};
-ghost use Rattle.pcap.specs.Captures.{header_bytes, short_record};
-ghost use Rattle.pieces.specs.Streams.{beginning, taken, passed_by, window_done, passed_over, ending};
+ghost use Rattle.std.specs.Prelude.{◌≡◌, ◌+◌, ◌%◌, ◌^◌, ◌≤◌, length, if◌then◌else◌, nat_eq, Some};
+ghost use Rattle.pcap.specs.Captures.{header_bytes, short_record, number_of};
+ghost use Rattle.pieces.specs.Streams.{beginning, stream_of, advanced_of, ending_of, taken, passed_by, window_done, passed_over, ending};
 
-use crate::{Advanced, Ending, Stream, fill, keep};
-use pcap::Said;
-
-const HEADER_BYTES: usize = 24;
+use crate::{Advanced, Ending, Stop, Stream, fill, keep};
+use pcap::{HEADER_BYTES, Refusal};
 
 // A capture of which nothing has come.
 pub fn begin() -> Stream
-    ensures { result ≡ beginning }
+    ensures { stream_of result ≡ beginning }
 {
     Stream {
         have: 0,
@@ -19,153 +17,116 @@ pub fn begin() -> Stream
         longer: 0,
         before: 0,
         tally: pcap::nothing(),
-        said: Said::Finished,
+        stop: Stop::Finished,
     }
 }
 
 // Takes in a piece of `got` bytes that stands behind the window: it belongs to the packet that is passed over, or the window
 // grows by it. Then the window is read into `out`, and what isn't done of it is kept. A second buffer twice as long as the
-// first has room for all events of a window; where there was less, the stream says `Event`, and the others come with the next
+// first has room for all events of a window; where there was less, the stream says `Full`, and the others come with the next
 // piece. A piece that doesn't fit behind the window, or goes beyond the packet that is passed over, isn't taken: nothing
 // changes.
+#[tactic(auto, unfolding(crate::specs::Streams::taken))]
 pub fn advance(buffer: &mut [u8], out: &mut [u8], stream: Stream, got: usize) -> Advanced
-    ensures value { result ≡ (taken buffer.old out.old stream got).answer }
-    ensures buffer_after { buffer.new ≡ (taken buffer.old out.old stream got).buffer }
-    ensures out_after { out.new ≡ (taken buffer.old out.old stream got).out }
+    ensures value { advanced_of result ≡ (taken buffer.old out.old (stream_of stream) got).answer }
+    ensures buffer_after { buffer.new ≡ (taken buffer.old out.old (stream_of stream) got).buffer }
+    ensures out_after { out.new ≡ (taken buffer.old out.old (stream_of stream) got).out }
 {
     let have = stream.have;
-    let pass = stream.pass;
-    if have > buffer.len() {
-        return silent(stream);
+    if have > buffer.len() || got > buffer.len() - have {
+        return Advanced { stream, filled: 0 };
     }
-    if got > buffer.len() - have {
-        return silent(stream);
-    }
-    if pass != 0 {
+    if stream.pass != 0 {
         return pass_over(buffer, out, stream, got);
     }
-    let mut next = stream;
-    next.have = have + got;
+    let grown = Stream {
+        have: have + got,
+        ..stream
+    };
     if have + got < HEADER_BYTES {
-        return silent(next);
+        return Advanced {
+            stream: grown,
+            filled: 0,
+        };
     }
-    window(buffer, out, next)
+    window(buffer, out, grown)
 }
 
 // A piece of a packet that is too long for the buffer; with its last byte the window can be read.
 fn pass_over(buffer: &mut [u8], out: &mut [u8], stream: Stream, got: usize) -> Advanced
     requires { stream.have ≤ length buffer.old }
-    ensures value { result ≡ (passed_by buffer.old out.old stream got).answer }
-    ensures buffer_after { buffer.new ≡ (passed_by buffer.old out.old stream got).buffer }
-    ensures out_after { out.new ≡ (passed_by buffer.old out.old stream got).out }
+    ensures value { advanced_of result ≡ (passed_by buffer.old out.old (stream_of stream) got).answer }
+    ensures buffer_after { buffer.new ≡ (passed_by buffer.old out.old (stream_of stream) got).buffer }
+    ensures out_after { out.new ≡ (passed_by buffer.old out.old (stream_of stream) got).out }
 {
-    let pass = stream.pass;
-    if got < pass {
-        let mut next = stream;
-        next.pass = pass - got;
-        return silent(next);
+    if got < stream.pass {
+        let stream = Stream {
+            pass: stream.pass - got,
+            ..stream
+        };
+        return Advanced { stream, filled: 0 };
     }
-    if got > pass {
-        return silent(stream);
+    if got > stream.pass {
+        return Advanced { stream, filled: 0 };
     }
     window(buffer, out, passed_over(stream))
 }
 
-// No event is given.
-fn silent(stream: Stream) -> Advanced
-    ensures { result ≡ record { stream = stream; filled = 0 } }
-{
-    Advanced {
-        stream: stream,
-        filled: 0,
-    }
-}
-
 // The last byte of a packet that is too long for the buffer has come.
 fn passed_over(stream: Stream) -> Stream
-    ensures { result ≡ passed_over stream }
+    ensures passed { stream_of result ≡ passed_over (stream_of stream) }
+    ensures window { result.have ≡ stream.have }
 {
-    let mut next = stream;
-    next.pass = 0;
-    next.longer = 0;
-    next.before = std::num::wrapping_add_u64(stream.before, stream.longer as u64);
-    next
+    Stream {
+        pass: 0,
+        longer: 0,
+        before: stream.before.wrapping_add(stream.longer as u64),
+        ..stream
+    }
 }
 
 // Reads the window, and keeps what isn't done.
 fn window(buffer: &mut [u8], out: &mut [u8], stream: Stream) -> Advanced
     requires { stream.have ≤ length buffer.old }
-    ensures value { result ≡ (window_done buffer.old out.old stream).answer }
-    ensures buffer_after { buffer.new ≡ (window_done buffer.old out.old stream).buffer }
-    ensures out_after { out.new ≡ (window_done buffer.old out.old stream).out }
+    ensures value { advanced_of result ≡ (window_done buffer.old out.old (stream_of stream)).answer }
+    ensures buffer_after { buffer.new ≡ (window_done buffer.old out.old (stream_of stream)).buffer }
+    ensures out_after { out.new ≡ (window_done buffer.old out.old (stream_of stream)).out }
 {
-    let have = stream.have;
-    let before = stream.before;
-    let done = fill::fill_events(&buffer[..have], HEADER_BYTES, stream.tally, out);
-    let at = done.at;
-    let tally = done.tally;
-    let said = done.said;
-    let kept = keep::settle(buffer, have, at);
+    let done = fill::fill_events(&buffer[..stream.have], HEADER_BYTES, stream.tally, out);
+    let kept = keep::settle(buffer, stream.have, done.at);
+    let records = done.at.saturating_sub(HEADER_BYTES);
     Advanced {
         stream: Stream {
             have: kept.have,
             pass: kept.pass,
             longer: kept.longer,
-            before: std::num::wrapping_add_u64(before, records_before(at)),
-            tally: tally,
-            said: said,
+            before: stream.before.wrapping_add(records as u64),
+            tally: done.tally,
+            stop: done.stop,
         },
         filled: done.filled,
     }
 }
 
-// The bytes of the packet records before a place.
-fn records_before(at: usize) -> u64
-    ensures { result ≡ at - 24 }
+// What a capture that has ended is refused by, if it is: what stands first in the window, or a packet that isn't all there.
+pub fn end(buffer: &[u8], stream: Stream) -> Option<Ending>
+    ensures { ending_of result ≡ ending buffer.now (stream_of stream) }
 {
-    if at < HEADER_BYTES {
-        return 0;
-    }
-    (at - HEADER_BYTES) as u64
-}
-
-// What a capture that has ended is refused by: what stands first in the window, or a packet that isn't all there.
-pub fn end(buffer: &[u8], stream: Stream) -> Ending
-    ensures { result ≡ ending buffer.now stream }
-{
-    let have = lower(stream.have, buffer.len());
-    let refusal = pcap::refusal_at(&buffer[..have], HEADER_BYTES);
-    if refusal != 0 {
-        return refused(refusal, stream.before);
-    }
-    if stream.pass != 0 {
-        return refused(22, stream.before);
-    }
-    refused(0, stream.before)
-}
-
-// A refusal, 0 for none, and where it stands.
-fn refused(number: u8, before: u64) -> Ending
-    ensures { result ≡ record { refusal = number; at = (if nat_eq number short_record then (before + header_bytes) % 2 ^ 64 else 0) } }
-{
-    if number == 22 {
-        return Ending {
-            refusal: number,
-            at: std::num::wrapping_add_u64(before, 24),
-        };
-    }
-    Ending {
-        refusal: number,
-        at: 0,
+    let have = stream.have.min(buffer.len());
+    match pcap::refusal_at(&buffer[..have], HEADER_BYTES) {
+        Some(refusal) => Some(refused(refusal, stream.before)),
+        None if stream.pass != 0 => Some(refused(Refusal::TruncatedRecord, stream.before)),
+        None => None,
     }
 }
 
-// The lower of two counts.
-fn lower(a: usize, b: usize) -> usize
-    ensures { result ≡ min a b }
+// A refusal, and where it stands: only a truncated record has a place of its own.
+fn refused(refusal: Refusal, before: u64) -> Ending
+    ensures { ending_of (Some result) ≡ record { refusal = number_of refusal; at = (if nat_eq (number_of refusal) short_record then (before + header_bytes) % 2 ^ 64 else 0) } }
 {
-    if a < b {
-        return a;
-    }
-    b
+    let at = match refusal {
+        Refusal::TruncatedRecord => before.wrapping_add(HEADER_BYTES as u64),
+        _ => 0,
+    };
+    Ending { refusal, at }
 }

@@ -4,19 +4,16 @@ ghost use Rattle.pcap.specs.Captures.{low_first};
 ghost use Rattle.pieces.specs.Pieces.{settled_buffer, settled_kept, too_long, trimmed, most_read_bytes, kept_first, kept_all};
 
 use crate::Kept;
+use pcap::{HEADER_BYTES, RECORD_BYTES};
 
-// The file's header, a packet record's, and the bytes of a packet that are ever read.
-const HEADER_BYTES: usize = 24;
-
-const RECORD_BYTES: usize = 16;
-
-const MOST_READ: usize = 88;
+// The bytes of a packet that are ever read.
+const MOST_READ: u32 = 88;
 
 // Where the first packet of a window begins.
 const FIRST_PACKET: usize = HEADER_BYTES + RECORD_BYTES;
 
 // What is kept of a packet record that is too long.
-const MOST_KEPT: usize = RECORD_BYTES + MOST_READ;
+const MOST_KEPT: usize = RECORD_BYTES + MOST_READ as usize;
 
 // Keeps, of a window of `have` bytes that was read up to `at`, the header and what is behind. Of a packet that the buffer
 // has no room for only the first bytes are kept. Places that are out of order (`at` before the header's end or behind the
@@ -25,13 +22,7 @@ pub fn settle(buffer: &mut [u8], have: usize, at: usize) -> Kept
     ensures value { result ≡ settled_kept buffer.old have at }
     ensures buffer_after { buffer.new ≡ settled_buffer buffer.old have at }
 {
-    if at < HEADER_BYTES {
-        return kept_all(have);
-    }
-    if have < at {
-        return kept_all(have);
-    }
-    if buffer.len() < have {
+    if at < HEADER_BYTES || have < at || buffer.len() < have {
         return kept_all(have);
     }
     spans::shift(&mut buffer[HEADER_BYTES..have], at - HEADER_BYTES);
@@ -43,7 +34,7 @@ fn kept_all(have: usize) -> Kept
     ensures { result ≡ kept_all have }
 {
     Kept {
-        have: have,
+        have,
         pass: 0,
         longer: 0,
     }
@@ -60,7 +51,7 @@ fn trim(buffer: &mut [u8], kept: usize) -> Kept
         return kept_all(HEADER_BYTES + kept);
     }
     let low = pcap::low_first(buffer);
-    let captured = pcap::captured_length(low, &buffer[HEADER_BYTES..]);
+    let captured = pcap::captured_length(low, &buffer[HEADER_BYTES..]).unwrap();
     if captured <= buffer.len() - FIRST_PACKET {
         return kept_all(HEADER_BYTES + kept);
     }
@@ -68,7 +59,7 @@ fn trim(buffer: &mut [u8], kept: usize) -> Kept
     Kept {
         have: HEADER_BYTES + MOST_KEPT,
         pass: captured - (kept - RECORD_BYTES),
-        longer: captured - MOST_READ,
+        longer: captured - MOST_READ as usize,
     }
 }
 
@@ -77,11 +68,7 @@ fn put_length(buffer: &mut [u8], low: bool)
     requires { (36 ≤ length buffer.old) × (low ≡ low_first buffer.old) }
     ensures { buffer.new ≡ trimmed buffer.old }
 {
-    let bytes = length_bytes(low);
-    buffer[32] = bytes[0];
-    buffer[33] = bytes[1];
-    buffer[34] = bytes[2];
-    buffer[35] = bytes[3];
+    buffer[32..36].copy_from_slice(&length_bytes(low));
 }
 
 // 88 as four bytes.
@@ -89,7 +76,7 @@ fn length_bytes(low: bool) -> [u8; 4]
     ensures { result ≡ most_read_bytes low }
 {
     if low {
-        return [88, 0, 0, 0];
+        return MOST_READ.to_le_bytes();
     }
-    [0, 0, 0, 88]
+    MOST_READ.to_be_bytes()
 }

@@ -1,7 +1,7 @@
 // The line of counts, in words, on standard error. What writes it answers an error only where nobody reads it any more.
-use crate::{Progress, Written};
-use pcap::Tally;
-use pieces::Ending;
+use crate::Failure;
+use pcap::{Refusal, Tally};
+use pieces::{Ending, Stream};
 use std::io;
 
 // The first four bytes of pcapng, and of captures with nanoseconds in either byte order.
@@ -12,20 +12,19 @@ const NANOSECONDS: u32 = 2712812621;
 const NANOSECONDS_LOW_FIRST: u32 = 1295823521;
 
 // Says how many packets there were, and why some were skipped; then what the capture is refused by, or why nobody knows.
-pub(crate) fn say(line: &impl Print, buffer: &[u8], done: Progress) -> io::Result<()> {
-    let stream = done.stream;
+pub(crate) fn say(
+    line: &impl Print,
+    buffer: &[u8],
+    stream: Stream,
+    done: Result<(), Failure>,
+) -> io::Result<()> {
     sums(line, stream.tally)?;
-    match done.written {
-        Written::All => {
-            if !done.read {
-                text(line, b"; standard input couldn't be read to its end")?;
-            } else {
-                refused(line, pieces::end(buffer, stream), first_number(buffer))?;
-            }
-        }
-        _ => text(line, b"; standard output didn't take all events")?,
+    match done {
+        Ok(()) => refused(line, pieces::end(buffer, stream), first_number(buffer))?,
+        Err(Failure::Input) => inputs::text(line, b"; standard input couldn't be read to its end")?,
+        Err(_) => inputs::text(line, b"; standard output didn't take all events")?,
     }
-    text(line, b"\n")
+    inputs::text(line, b"\n")
 }
 
 // The packets read, emitted, and skipped for each reason.
@@ -42,59 +41,45 @@ fn sums(line: &impl Print, tally: Tally) -> io::Result<()> {
 // A number and what follows it.
 fn count(line: &impl Print, n: u64, behind: &[u8]) -> io::Result<()> {
     inputs::heard(line.print(n))?;
-    text(line, behind)
+    inputs::text(line, behind)
 }
 
-// Some words.
-fn text(line: &impl Print, bytes: &[u8]) -> io::Result<()> {
-    inputs::heard(line.write_all(bytes))
-}
-
-// The refusal's number, the byte where it stands, and what it means.
-fn refused(line: &impl Print, ending: Ending, magic: u32) -> io::Result<()> {
-    let number = ending.refusal;
-    if number == 0 {
+// What a capture is refused by: the number, the byte where it stands, and what it means.
+fn refused(line: &impl Print, ending: Option<Ending>, magic: u32) -> io::Result<()> {
+    let Some(Ending { refusal, at }) = ending else {
         return Ok(());
+    };
+    inputs::text(line, b"; refused by ")?;
+    count(line, u64::from(refusal.number()), b" at byte ")?;
+    match refusal {
+        Refusal::TruncatedRecord => count(line, at, b": truncated packet record"),
+        Refusal::TruncatedHeader => count(line, at, b": truncated file header"),
+        Refusal::BadMagic => {
+            count(line, at, b": bad magic")?;
+            format(line, magic)
+        }
     }
-    text(line, b"; refused by ")?;
-    count(line, number as u64, b" at byte ")?;
-    if number == 22 {
-        return count(line, ending.at, b": truncated packet record");
-    }
-    if number == 21 {
-        return count(line, ending.at, b": truncated file header");
-    }
-    count(line, ending.at, b": bad magic")?;
-    format(line, magic)
 }
 
 // Names the format of a file that is no classic capture, where it is known, and what makes one of it.
 fn format(line: &impl Print, magic: u32) -> io::Result<()> {
-    if magic == PCAPNG {
-        text(
+    match magic {
+        PCAPNG => inputs::text(
             line,
             b" (this is pcapng; editcap -F pcap makes a classic capture of it)",
-        )?;
-    }
-    if magic == NANOSECONDS {
-        text(
+        ),
+        NANOSECONDS | NANOSECONDS_LOW_FIRST => inputs::text(
             line,
             b" (this is a nanosecond capture; editcap -F pcap makes a classic one of it)",
-        )?;
+        ),
+        _ => Ok(()),
     }
-    if magic == NANOSECONDS_LOW_FIRST {
-        text(
-            line,
-            b" (this is a nanosecond capture; editcap -F pcap makes a classic one of it)",
-        )?;
-    }
-    Ok(())
 }
 
-// The number that a file's first four bytes spell.
+// The number that a file's first four bytes spell; 0 where there are fewer.
+// Stays (1): the number is only compared with those of known formats, and 0 is none of them.
 fn first_number(buffer: &[u8]) -> u32 {
-    if buffer.len() < 4 {
-        return 0;
-    }
-    bigendian::join4(buffer[0], buffer[1], buffer[2], buffer[3])
+    buffer
+        .first_chunk()
+        .map_or(0, |bytes| u32::from_be_bytes(*bytes))
 }

@@ -1,6 +1,8 @@
 // A capture that is cut, or changed in one byte.
+ghost use Rattle.std.specs.Prelude.{◌≡◌, ◌<◌, length};
+
+use crate::numbers;
 use crate::numbers::OFFSET;
-use crate::{numbers, text};
 use std::io;
 
 // The longest capture that is cut and changed.
@@ -17,49 +19,36 @@ pub(crate) fn damaged(output: &impl Print, capture: &mut [u8], out: &mut [u8]) -
 
 // A line for each beginning of a capture.
 fn prefixes(output: &impl Print, capture: &[u8], out: &mut [u8]) -> io::Result<()> {
-    let mut n = 0;
-    while n <= capture.len() {
-        text::start(output, b"prefix")?;
-        text::number(output, n as u64)?;
-        numbers::print(output, numbers::come_to(&capture[..n], out))?;
-        n += 1;
+    for n in 0..=capture.len() {
+        inputs::text(output, b"prefix")?;
+        inputs::number(output, n as u64)?;
+        numbers::come_to(&capture[..n], out).print(output)?;
     }
     Ok(())
 }
 
 // A line for each byte of a capture: all its other values, in one digest.
 fn changed(output: &impl Print, capture: &mut [u8], out: &mut [u8]) -> io::Result<()> {
-    let mut i = 0;
-    while i < capture.len() {
-        text::start(output, b"changed")?;
-        text::number(output, i as u64)?;
-        text::number(output, others(capture, i, out))?;
-        text::end(output)?;
-        i += 1;
+    for i in 0..capture.len() {
+        inputs::text(output, b"changed")?;
+        inputs::number(output, i as u64)?;
+        inputs::number(output, others(capture, i, out))?;
+        inputs::text(output, b"\n")?;
     }
     Ok(())
 }
 
 // A byte's 255 other values, one after the other; it is then as it was.
-fn others(capture: &mut [u8], i: usize, out: &mut [u8]) -> u64 {
-    let mut h = OFFSET;
-    if i >= capture.len() {
-        return h;
-    }
+fn others(capture: &mut [u8], i: usize, out: &mut [u8]) -> u64
+    requires { i < length capture.old }
+    ensures { length capture.new ≡ length capture.old }
+{
     let old = capture[i];
-    let mut v: u8 = 0;
-    while v < 255 {
-        v += 1;
-        put(capture, i, old ^ v);
-        h = numbers::folded(h, numbers::come_to(capture, out));
+    let mut h = OFFSET;
+    for v in 1..=255 {
+        capture[i] = old ^ v;
+        h = numbers::come_to(capture, out).folded(h);
     }
-    put(capture, i, old);
+    capture[i] = old;
     h
-}
-
-// Puts a byte into a capture.
-fn put(capture: &mut [u8], i: usize, byte: u8) {
-    if i < capture.len() {
-        capture[i] = byte;
-    }
 }

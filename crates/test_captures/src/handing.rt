@@ -1,13 +1,32 @@
 // A capture that is handed over in pieces, in many ways: each has to come to what the whole does.
-ghost use Rattle.std.specs.Prelude.{◌≤◌};
-
+use crate::numbers;
 use crate::numbers::{Numbers, OFFSET};
-use crate::{numbers, text};
 use pieces::Stream;
 use std::io;
 
 // The longest capture of which every two cuts are tried.
 const TWO_CUTS: usize = 240;
+
+// A way to hand a capture over: cut at two places, and in pieces of at most so many bytes.
+#[derive(Clone, Copy)]
+pub struct Way {
+    pub first: usize,
+    pub second: usize,
+    pub most: usize,
+}
+
+impl Way {
+    // How many bytes may come at a place: up to the next cut, and no more than a piece has.
+    fn room(self, at: usize) -> usize {
+        if at < self.first {
+            return self.most.min(self.first - at);
+        }
+        if at < self.second {
+            return self.most.min(self.second - at);
+        }
+        self.most
+    }
+}
 
 // A line for each length of the buffer.
 pub(crate) fn buffers(
@@ -17,208 +36,119 @@ pub(crate) fn buffers(
     buffer: &mut [u8],
     out: &mut [u8],
 ) -> io::Result<()> {
-    ways(output, capture, whole, buffer, out, 129)?;
-    ways(output, capture, whole, buffer, out, 150)?;
-    ways(output, capture, whole, buffer, out, 400)
+    for len in [129, 150, 400] {
+        if let Some(part) = buffer.get_mut(..len) {
+            ways(output, capture, whole, part, out)?;
+        }
+    }
+    Ok(())
 }
 
-// In how many ways a capture comes to the same, with a buffer of some length.
+// A line that says in how many ways a capture comes to the same, with a buffer of some length.
 fn ways(
     output: &impl Print,
     capture: &[u8],
     whole: Numbers,
     buffer: &mut [u8],
     out: &mut [u8],
-    len: usize,
 ) -> io::Result<()> {
-    if len > buffer.len() {
-        return Ok(());
-    }
-    let part: &mut [u8] = &mut buffer[..len];
-    let some = sizes(capture, whole, part, out);
-    let more = cuts(capture, whole, part, out);
-    text::start(output, b"pieces")?;
-    text::number(output, len as u64)?;
-    inputs::heard(output.write_all(b" ways"))?;
-    text::number(output, std::num::wrapping_add_u64(some, more))?;
-    text::end(output)
+    let len = buffer.len();
+    let agreed = agreeing(capture, whole, buffer, out);
+    inputs::text(output, b"pieces")?;
+    inputs::number(output, len as u64)?;
+    inputs::text(output, b" ways")?;
+    inputs::number(output, agreed as u64)?;
+    inputs::text(output, b"\n")
 }
 
-// Pieces of one length, for each length: in how many the capture comes to the same.
-fn sizes(capture: &[u8], whole: Numbers, buffer: &mut [u8], out: &mut [u8]) -> u64 {
-    let mut agreed = 0;
-    let mut size = 1;
-    while size <= capture.len() {
-        agreed = std::num::wrapping_add_u64(
-            agreed,
-            agrees(capture, whole, buffer, out, 0, 0, size),
-        );
-        size += 1;
-    }
-    agreed
-}
-
-// Two cuts, at each pair of places.
-fn cuts(capture: &[u8], whole: Numbers, buffer: &mut [u8], out: &mut [u8]) -> u64 {
-    let mut agreed = 0;
-    if capture.len() > TWO_CUTS {
+// In how many ways a capture comes to the same: of pieces of one length, for each length; and of two cuts, at each pair of
+// places.
+fn agreeing(capture: &[u8], whole: Numbers, buffer: &mut [u8], out: &mut [u8]) -> usize {
+    let len = capture.len();
+    let mut agrees = |first, second, most| {
+        let way = Way {
+            first,
+            second,
+            most,
+        };
+        handed(capture, buffer, out, way) == whole
+    };
+    let mut agreed = (1..=len).filter(|&most| agrees(0, 0, most)).count();
+    if len > TWO_CUTS {
         return agreed;
     }
-    let mut a = 0;
-    while a <= capture.len() {
-        agreed = std::num::wrapping_add_u64(agreed, second_cuts(capture, whole, buffer, out, a));
-        a += 1;
+    for first in 0..=len {
+        let more = (first..=len)
+            .filter(|&second| agrees(first, second, len))
+            .count();
+        agreed = agreed.wrapping_add(more);
     }
     agreed
-}
-
-// The second cut at each place behind the first.
-fn second_cuts(capture: &[u8], whole: Numbers, buffer: &mut [u8], out: &mut [u8], a: usize) -> u64 {
-    let mut agreed = 0;
-    let mut b = a;
-    while b <= capture.len() {
-        agreed = std::num::wrapping_add_u64(
-            agreed,
-            agrees(capture, whole, buffer, out, a, b, 65536),
-        );
-        b += 1;
-    }
-    agreed
-}
-
-// 1 where the capture, cut at a and b and into pieces of at most `size` bytes, comes to what the whole does.
-fn agrees(
-    capture: &[u8],
-    whole: Numbers,
-    buffer: &mut [u8],
-    out: &mut [u8],
-    a: usize,
-    b: usize,
-    size: usize,
-) -> u64 {
-    let got = handed(capture, buffer, out, a, b, size);
-    if numbers::same(got, whole) {
-        return 1;
-    }
-    0
 }
 
 // What a capture comes to that is handed over in pieces.
-fn handed(
-    capture: &[u8],
-    buffer: &mut [u8],
-    out: &mut [u8],
-    a: usize,
-    b: usize,
-    size: usize,
-) -> Numbers {
-    let mut state = Progress {
+fn handed(capture: &[u8], buffer: &mut [u8], out: &mut [u8], way: Way) -> Numbers {
+    let mut handing = Handing {
+        buffer,
+        out,
         stream: pieces::begin(),
         digest: OFFSET,
     };
     let mut at = 0;
+    // Stays (3): how long a piece is goes by how far the stream has come, so no iterator counts the places.
     while at < capture.len() {
-        let most = lower(till(at, a, b), lower(size, room(buffer, state)));
-        let got = lower(capture.len() - at, most);
+        let most = way.room(at).min(handing.room());
+        let got = most.min(capture.len() - at);
         if got == 0 {
             break;
         }
-        state = turn(capture, at, got, buffer, out, state);
+        handing.turn(&capture[at..at + got]);
         at += got;
     }
-    ended(buffer, state)
+    handing.ended()
 }
 
-// A capture of which pieces were handed over, and the digest of the events so far.
-#[derive(Clone, Copy)]
-pub struct Progress {
-    pub stream: Stream,
-    pub digest: u64,
+// A capture of which pieces are handed over: both buffers, what has come of it, and the digest of the events so far.
+#[derive(Drop)]
+pub struct Handing<'a> {
+    buffer: &'a mut [u8],
+    out: &'a mut [u8],
+    stream: Stream,
+    digest: u64,
 }
 
-// Hands over the piece of `got` bytes that stands at a place.
-fn turn(
-    capture: &[u8],
-    at: usize,
-    got: usize,
-    buffer: &mut [u8],
-    out: &mut [u8],
-    state: Progress,
-) -> Progress {
-    let stream = state.stream;
-    copy(buffer, stream.have, capture, at, got);
-    let more = pieces::advance(buffer, out, stream, got);
-    let next = more.stream;
-    Progress {
-        stream: next,
-        digest: numbers::digest(state.digest, out, more.filled),
+impl Handing<'_> {
+    // Hands over a piece, which has room behind the window.
+    fn turn(&mut self, piece: &[u8]) {
+        let have = self.stream.have;
+        if have <= self.buffer.len() && piece.len() <= self.buffer.len() - have {
+            self.buffer[have..have + piece.len()].copy_from_slice(piece);
+        }
+        let more = pieces::advance(self.buffer, self.out, self.stream, piece.len());
+        self.stream = more.stream;
+        self.digest = numbers::digest(self.digest, self.out, more.filled);
     }
-}
 
-// What the capture has come to.
-fn ended(buffer: &[u8], state: Progress) -> Numbers {
-    let stream = state.stream;
-    let end = pieces::end(buffer, stream);
-    let tally = stream.tally;
-    Numbers {
-        tally: tally,
-        refusal: end.refusal,
-        at: end.at,
-        digest: state.digest,
+    // What the capture has come to.
+    fn ended(&self) -> Numbers {
+        let (refusal, at) = match pieces::end(self.buffer, self.stream) {
+            Some(end) => (end.refusal.number(), end.at),
+            None => (0, 0),
+        };
+        Numbers {
+            tally: self.stream.tally,
+            refusal,
+            at,
+            digest: self.digest,
+        }
     }
-}
 
-// How many bytes may come: up to the buffer's end, or to the end of the packet that is passed over.
-fn room(buffer: &[u8], state: Progress) -> usize {
-    let stream = state.stream;
-    let have = stream.have;
-    if have > buffer.len() {
-        return 0;
-    }
-    if stream.pass == 0 {
-        return buffer.len() - have;
-    }
-    lower(stream.pass, buffer.len() - have)
-}
-
-// How many bytes there are from a place to the next cut.
-fn till(at: usize, a: usize, b: usize) -> usize {
-    if at < a {
-        return a - at;
-    }
-    if at < b {
-        return b - at;
-    }
-    65536
-}
-
-// The lower of two numbers.
-fn lower(a: usize, b: usize) -> usize
-    ensures { result ≤ a }
-{
-    if a < b {
-        return a;
-    }
-    b
-}
-
-// Puts the piece of `got` bytes that stands at a place of a capture into the buffer, behind the window.
-fn copy(buffer: &mut [u8], have: usize, capture: &[u8], at: usize, got: usize) {
-    if have > buffer.len() {
-        return;
-    }
-    if got > buffer.len() - have {
-        return;
-    }
-    if at > capture.len() {
-        return;
-    }
-    if got > capture.len() - at {
-        return;
-    }
-    let mut i = 0;
-    while i < got {
-        buffer[have + i] = capture[at + i];
-        i += 1;
+    // How many bytes may come: up to the buffer's end, or to the end of the packet that is passed over.
+    fn room(&self) -> usize {
+        let left = self.buffer.len().saturating_sub(self.stream.have);
+        if self.stream.pass == 0 {
+            return left;
+        }
+        left.min(self.stream.pass)
     }
 }

@@ -4,10 +4,11 @@
 
 #![tactic(auto)]
 
+ghost use Rattle.std.specs.Prelude.{◌≤◌, ◌+◌, length, IfSome};
+
 mod damage;
 mod handing;
 mod numbers;
-mod text;
 
 use std::io;
 use std::process::ExitCode;
@@ -16,54 +17,38 @@ use std::process::ExitCode;
 fn each(
     output: &impl Print,
     input: &mut [u8],
-    have: usize,
     buffer: &mut [u8],
     out: &mut [u8],
 ) -> io::Result<()> {
     let mut at = 0;
-    let mut left = have;
-    while left >= 4 {
-        let size = length_at(input, at);
-        if size > left - 4 {
-            return Ok(());
-        }
-        one(output, input, at + 4, size, buffer, out)?;
+    // Stays (3): each capture's own length says where the next one begins.
+    while let Some(size) = length_at(input, at) {
+        let capture = &mut input[at + 4..at + 4 + size];
+        one(output, capture, buffer, out)?;
         at += 4 + size;
-        left -= 4 + size;
     }
     Ok(())
 }
 
-// The length that stands before a capture; 0 where there is none.
-fn length_at(input: &[u8], at: usize) -> usize {
-    if input.len() < 4 {
-        return 0;
-    }
-    if at > input.len() - 4 {
-        return 0;
-    }
-    bigendian::join4(input[at], input[at + 1], input[at + 2], input[at + 3]) as usize
+// The length of the capture that stands behind its length at a place, where all of it is there.
+fn length_at(input: &[u8], at: usize) -> Option<usize>
+    ensures { IfSome result (λ size. at + (4 + size) ≤ length input.now) }
+{
+    let (size, rest) = input.get(at..)?.split_first_chunk::<4>()?;
+    let size = u32::from_be_bytes(*size) as usize;
+    if size <= rest.len() { Some(size) } else { None }
 }
 
-// One capture: its bytes stand from `at` on.
+// One capture.
 fn one(
     output: &impl Print,
-    input: &mut [u8],
-    at: usize,
-    size: usize,
+    capture: &mut [u8],
     buffer: &mut [u8],
     out: &mut [u8],
 ) -> io::Result<()> {
-    if at > input.len() {
-        return Ok(());
-    }
-    if size > input.len() - at {
-        return Ok(());
-    }
-    let capture: &mut [u8] = &mut input[at..at + size];
     let whole = numbers::come_to(capture, out);
-    text::start(output, b"whole")?;
-    numbers::print(output, whole)?;
+    inputs::text(output, b"whole")?;
+    whole.print(output)?;
     damage::damaged(output, capture, out)?;
     handing::buffers(output, capture, whole, buffer, out)
 }
@@ -73,8 +58,5 @@ fn main(rt: HostRuntime) -> ExitCode {
     let mut buffer = [0u8; 2048];
     let mut out = [0u8; 16384];
     let have = inputs::read_full(&mut rt.stdin(), &mut input);
-    match each(&rt, &mut input, have, &mut buffer, &mut out) {
-        Ok(()) => ExitCode::SUCCESS,
-        Err(_) => ExitCode::from(141),
-    }
+    inputs::status(each(&rt, &mut input[..have], &mut buffer, &mut out))
 }

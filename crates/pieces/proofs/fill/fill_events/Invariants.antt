@@ -1,12 +1,16 @@
--- The reader is at the place and with the tally of what is filled. From where it is it comes to what it came to from its beginning.
-use Rattle.std.proofs.Common.{◌≡◌}
-use Rattle.pieces.proofs.Filling.{Result, comes_to, promised, turns_left}
+-- From where the reader is it comes to what it came to from its beginning.
+use Rattle.std.proofs.Common.{◌≡◌, ◌≤◌, length}
+use Rattle.pieces.proofs.Turns.{ahead}
+use Rattle.pieces.proofs.Filling.{Both, comes_to, promised}
 use Rattle.pieces.proofs.fill.fill_events.Given as goal
 
-abbrev pub invariant-loop-reader : goal.invariant-loop-reader
-invariant-loop-reader l =
-    (l.reader.bytes.now ≡ l.bytes) × ((l.reader.at ≡ l.done.at) × ((l.reader.tally ≡ l.done.tally)
-    × (◌≡◌ {A = Result} (comes_to l.bytes l.done l.out) (promised l.fn.bytes l.fn.at l.fn.tally l.fn.out))))
+abbrev pub invariant-loop-out : goal.invariant-loop-out
+invariant-loop-out l =
+    record {
+      same : l.reader.bytes.now ≡ l.bytes;
+      within : l.filled ≤ length l.out;
+      comes : ◌≡◌ {A = Both} (comes_to l.bytes l.reader.at l.reader.tally l.filled l.out) (promised l.fn.bytes l.fn.at l.fn.tally l.fn.out);
+    }
 
-abbrev pub decreases-loop-reader : goal.decreases-loop-reader
-decreases-loop-reader l = turns_left l.bytes l.done
+abbrev pub decreases-loop-out : goal.decreases-loop-out
+decreases-loop-out l = ahead l.bytes l.reader.at l.reader.tally

@@ -1,30 +1,22 @@
 -- `settle`: places that make no sense; else what is behind moves up to the header, and a record that is too long is shortened.
-use Rattle.std.proofs.Common.{◌≡◌, ℕ, ◌+◌, ◌-◌, cond, List, length, refl, subst, le-leb}
+use Rattle.std.proofs.Common.{◌≡◌, ℕ, ◌+◌, ◌-◌, false, cond, List, length, refl, subst, ◌∙◌, sym, le-leb}
 use borrow.Author.Tests.{lt-leb}
-use Rattle.pieces.specs.Pieces.{settled_kept, settled_buffer, too_long, kept_first, kept_all, trimmed}
-use Rattle.pieces.proofs.Keeping.{carried-back}
+use Rattle.pieces.specs.Pieces.{settled_kept, settled_buffer, in_order, too_long, kept_first, kept_all, trimmed}
+use Rattle.pieces.proofs.Keeping.{carried-back, disordered}
 use Rattle.pieces.proofs.keep.settle.Goals as goal
+use Rattle.pieces.proofs.keep.settle.Goals.{then-at-lt-HEADER_BYTES-via-then-at-lt-HEADER_BYTES, then-at-lt-HEADER_BYTES-via-else-at-lt-HEADER_BYTES+then-have-at, then-at-lt-HEADER_BYTES-via-else-at-lt-HEADER_BYTES+else-have-at+then-buffer-have}
 
 pub returns-then-at-lt-HEADER_BYTES : goal.returns-then-at-lt-HEADER_BYTES
-unfolding settled_kept settled_buffer
 returns-then-at-lt-HEADER_BYTES c =
-    let early = lt-leb 24 c.args.at c.if-at-lt-HEADER_BYTES.true in
-    record { value = rw early c.kept_all.ensures; buffer_after = rw early refl }
-
-pub returns-then-have-at : goal.returns-then-have-at
-unfolding settled_kept settled_buffer
-returns-then-have-at c =
-    let a = le-leb 24 c.args.at c.if-at-lt-HEADER_BYTES.false in
-    let early = lt-leb c.args.at c.args.have c.if-have-at.true in
-    record { value = rw (a, early) c.kept_all-then-have-at.ensures; buffer_after = rw (a, early) refl }
-
-pub returns-then-buffer-have : goal.returns-then-buffer-have
-unfolding settled_kept settled_buffer
-returns-then-buffer-have c =
-    let a = le-leb 24 c.args.at c.if-at-lt-HEADER_BYTES.false in
-    let h = le-leb c.args.at c.args.have c.if-have-at.false in
-    let early = lt-leb c.args.have (length c.args.buffer.now) c.if-buffer-have.true in
-    record { value = rw (a, h, early) c.kept_all-then-buffer-have.ensures; buffer_after = rw (a, h, early) refl }
+    let p = c.args in
+    let out : in_order p.buffer.now p.have p.at ≡ false =
+    elim c.then-at-lt-HEADER_BYTES.branch [
+      | then-at-lt-HEADER_BYTES-via-then-at-lt-HEADER_BYTES w ↦ rw (lt-leb 24 p.at w.if-at-lt-HEADER_BYTES.true) refl
+      | then-at-lt-HEADER_BYTES-via-else-at-lt-HEADER_BYTES+then-have-at w ↦ rw (le-leb 24 p.at w.if-at-lt-HEADER_BYTES.false, lt-leb p.at p.have w.if-have-at.true) refl
+      | then-at-lt-HEADER_BYTES-via-else-at-lt-HEADER_BYTES+else-have-at+then-buffer-have w ↦ rw (le-leb 24 p.at w.if-at-lt-HEADER_BYTES.false, le-leb p.at p.have w.if-have-at.false, lt-leb p.have (length p.buffer.now) w.if-buffer-have.true) refl
+    ] in
+    let same = disordered p.buffer.now p.have p.at out in
+    record { value = c.kept_all.ensures ∙ sym same.0; buffer_after = sym same.1 }
 
 pub returns : goal.returns
 unfolding settled_kept settled_buffer

@@ -1,9 +1,0 @@
--- `digest`: byte by byte.
-use Rattle.std.proofs.Common.{◌-◌, ◌≤◌, length}
-use Rattle.test_captures.proofs.numbers.digest.Given as goal
-
-abbrev pub invariant-loop-i : goal.invariant-loop-i
-invariant-loop-i l = l.i ≤ length l.out
-
-abbrev pub decreases-loop-i : goal.decreases-loop-i
-decreases-loop-i l = length l.out - l.i
