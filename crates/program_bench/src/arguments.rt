@@ -1,79 +1,47 @@
 // The program's words: six numbers.
+use crate::keys::Method;
 use crate::work::Plan;
 use std::rt::Env;
 
-// More than any number that a word may say.
-const TOO_MUCH: u64 = 1000000000000000;
+// The most packets, and the most changes.
+const MOST: u64 = 100000000000;
 
-// What the words ask for. A word that is missing or no number counts as too much.
-pub(crate) fn plan(rt: &impl Env) -> Plan {
-    Plan {
-        method: number(rt, 1),
-        servers: number(rt, 2),
-        horizon: number(rt, 3),
-        records: number(rt, 4),
-        packets: number(rt, 5),
-        changes: number(rt, 6),
-    }
+// What the words ask for: nothing where one is missing or no number, or where they can't be done.
+pub(crate) fn plan(rt: &impl Env) -> Option<Plan> {
+    let plan = Plan {
+        method: Method::try_from(number(rt, 1)?).ok()?,
+        servers: number(rt, 2)?,
+        horizon: number(rt, 3)?,
+        records: number(rt, 4)?,
+        packets: number(rt, 5)?,
+        changes: number(rt, 6)?,
+    };
+    fit(&plan).then_some(plan)
 }
 
 // Whether the words can be done: at least one server works, and only a server of the horizon goes to work.
-pub(crate) fn fit(p: Plan) -> bool {
-    if p.method == 0 {
-        return false;
-    }
-    if p.method > 3 {
-        return false;
-    }
-    if p.servers > 64 {
-        return false;
-    }
-    if p.horizon >= p.servers {
-        return false;
-    }
-    if p.records > 3276 {
-        return false;
-    }
-    if p.packets > 100000000000 {
-        return false;
-    }
-    p.changes <= 100000000000
+fn fit(plan: &Plan) -> bool {
+    plan.servers <= 64
+        && plan.horizon < plan.servers
+        && plan.records <= 3276
+        && plan.packets <= MOST
+        && plan.changes <= MOST
 }
 
 // The number that a word says.
-fn number(rt: &impl Env, i: usize) -> u64 {
+fn number(rt: &impl Env, i: usize) -> Option<u64> {
     let mut word = [0u8; 16];
-    let n = rt.arg(i, &mut word).unwrap_or(0);
-    value(word, n)
+    let length = rt.arg(i, &mut word).ok()?;
+    value(word.get(..length)?)
 }
 
-// The number that the first n bytes say in decimal.
-fn value(word: [u8; 16], n: usize) -> u64 {
-    if n == 0 {
-        return TOO_MUCH;
+// The number that digits say.
+fn value(digits: &[u8]) -> Option<u64> {
+    if digits.is_empty() {
+        return None;
     }
-    if n > 16 {
-        return TOO_MUCH;
-    }
-    let mut v: u64 = 0;
-    let mut i = 0;
-    while i < n {
-        v = and_digit(v, word[i]);
-        i += 1;
-    }
-    v
-}
-
-// A number with one more digit behind it.
-fn and_digit(v: u64, byte: u8) -> u64 {
-    if v > 1000000000000 {
-        return TOO_MUCH;
-    }
-    if byte < b'0' {
-        return TOO_MUCH;
-    }
-    if byte > b'9' {
-        return TOO_MUCH;
-    }
-    v * 10 + ((byte - b'0') as u64)
+    digits.iter().try_fold(0u64, |value, digit| match digit {
+        b'0'..=b'9' => value.checked_mul(10)?.checked_add(u64::from(*digit - b'0')),
+        _ => None,
+    })
 }

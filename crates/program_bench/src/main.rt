@@ -13,95 +13,44 @@ mod keys;
 mod work;
 
 use ring::Entry;
-use roster::Roster;
+use std::io;
 use std::process::ExitCode;
-use work::{More, Plan, Work};
+use work::{Plan, Work};
 
-// A ring of zeros.
-fn zeros() -> [Entry; 64] {
-    let e = Entry {
-        position: 0,
-        server: 0,
-        track: 0,
-    };
-    [e; 64]
-}
+// The most events that are done.
+const MOST_EVENTS: u64 = 1000000000000;
 
-// Each event is written, done and heard. Whether nobody reads the lines any more.
-fn run(
-    output: &impl Print,
-    record: &mut [u8],
-    table: &mut [u8],
-    rows: &mut [u32],
-    flags: &mut [u8],
-    ring: &mut [Entry],
-    start: Roster,
-    plan: Plan,
-    begun: Work,
-) -> bool {
-    let mut roster = start;
-    let mut work = begun;
-    let mut number: u64 = 0;
-    while number < 1000000000000 {
-        number += 1;
-        work::ask(record, plan, work);
-        let out = balancer::event(record, table, rows, flags, ring, roster);
-        roster = out.roster;
-        work = work::hear(output, plan, work, out.reply);
-        if !matches!(work.more, More::Yes) {
+// Each event is done and heard, until no more comes.
+fn run(output: &impl Print, plan: &Plan) -> io::Result<()> {
+    let mut table = [0u8; table::MOST_TABLE_BYTES];
+    let mut rows = [0u32; rows::ROW_PLACES];
+    let mut flags = [0u8; rows::ROW_PLACES];
+    let mut ring = [Entry::default(); ring::RING_PLACES];
+    let mut roster = balancer::start(&mut table, &rows, &flags, &ring, roster::empty()).roster;
+    let mut work = Work::begun();
+    for _ in 0..MOST_EVENTS {
+        let Some(record) = work.event(plan) else {
             break;
+        };
+        let out = balancer::event(
+            &record, &mut table, &mut rows, &mut flags, &mut ring, roster,
+        );
+        roster = out.roster;
+        let over = work.hear(plan, out.reply);
+        if !over.is_empty() {
+            work.report(output, over)?;
         }
     }
-    matches!(work.more, More::Unread)
+    Ok(())
 }
 
-// The ring's owner: a ring of zeros, handed on.
-fn owner(
-    output: &impl Print,
-    record: &mut [u8],
-    table: &mut [u8],
-    rows: &mut [u32],
-    flags: &mut [u8],
-    roster: Roster,
-    plan: Plan,
-    work: Work,
-) -> bool {
-    let mut ring = zeros();
-    let out = balancer::start(table, rows, flags, &ring, roster);
-    run(
-        output, record, table, rows, flags, &mut ring, out.roster, plan, work,
-    )
-}
-
-// The program's status: that of the signal PIPE where nobody reads what it writes.
-fn status(unread: bool) -> ExitCode {
-    if unread {
-        return ExitCode::from(141);
-    }
-    ExitCode::SUCCESS
-}
+// What to write where the words can't be done.
+const USAGE: &[u8] =
+    b"usage: bench METHOD SERVERS HORIZON RECORDS PACKETS CHANGES (METHOD 1 to 3, SERVERS up to 64, HORIZON below SERVERS, RECORDS up to 3276)\n";
 
 fn main(rt: HostRuntime) -> ExitCode {
-    let plan = arguments::plan(&rt);
-    if !arguments::fit(plan) {
-        let said = rt.stderr().write_all(
-            b"usage: bench METHOD SERVERS HORIZON RECORDS PACKETS CHANGES (METHOD 1 to 3, SERVERS up to 64, HORIZON below SERVERS, RECORDS up to 3276)\n",
-        );
-        return status(inputs::heard(said).is_err());
-    }
-    let mut record = [0u8; 16];
-    let mut table = [0u8; 65520];
-    let mut rows = [0u32; 4096];
-    let mut flags = [0u8; 4096];
-    let unread = owner(
-        &rt,
-        &mut record,
-        &mut table,
-        &mut rows,
-        &mut flags,
-        roster::empty(),
-        plan,
-        work::begun(),
-    );
-    status(unread)
+    inputs::status(match arguments::plan(&rt) {
+        Some(plan) => run(&rt, &plan),
+        None => inputs::heard(rt.stderr().write_all(USAGE)),
+    })
 }

@@ -1,121 +1,98 @@
 // Every key led to a server by one of the methods: how many keys each server gets, and how many are to be recorded.
 use ranking::Pick;
 use ring::Entry;
+use std::fmt;
 
-// The place of a server; the number of servers where it is none of them.
-pub(crate) fn place_of(servers: &[u32], server: u32) -> usize {
-    let mut i = 0;
-    while i < servers.len() {
-        if servers[i] == server {
-            return i;
+// How keys are led to servers; of rows there are so many.
+#[derive(Clone, Copy)]
+pub enum Method {
+    Hrw,
+    Ring,
+    Rows(u16),
+}
+
+impl fmt::Display for Method {
+    // The method's number, and the row count, which is 0 where there are none.
+    fn fmt<W: fmt::Write>(&self, f: &mut fmt::Formatter<W>) -> fmt::Result {
+        match self {
+            Method::Hrw => f.write_str("1 0"),
+            Method::Ring => f.write_str("2 0"),
+            Method::Rows(rows) => write!(f, "3 {rows}"),
         }
-        i += 1;
-    }
-    i
-}
-
-// One more at a place.
-fn bump(counts: &mut [u32], i: usize) {
-    if i < counts.len() {
-        counts[i] = std::num::wrapping_add_u32(counts[i], 1);
     }
 }
 
-// One key more for its server; at place 64 those are counted that are to be recorded.
-fn tally(counts: &mut [u32], servers: &[u32], p: Pick) {
-    bump(counts, place_of(servers, p.server));
-    if p.flag {
-        bump(counts, 64);
-    }
+// How many keys the server at each place gets, and how many keys are to be recorded.
+#[derive(Clone, Copy)]
+pub struct Counts {
+    pub at: [u32; sets::MOST_SERVERS],
+    pub recorded: u32,
 }
 
-// The keys by HRW.
-fn by_hrw(counts: &mut [u32], points: &[u32], servers: &[u32], states: &[u8]) {
-    let mut i = 0;
-    while i < points.len() {
-        tally(
-            counts,
-            servers,
-            hrw::pick(servers, states, hash::digest(points[i])),
-        );
-        i += 1;
-    }
-}
-
-// What a point reads of a planned ring: the first of the n entries in use that is not below it, else the first entry.
-fn read(plan: [Entry; 64], n: usize, point: u32) -> Entry {
-    let mut i = 0;
-    while i < 64 {
-        if n <= i {
-            break;
+impl Counts {
+    // One key more.
+    fn add(&mut self, servers: &[u32], pick: Pick) {
+        let place = servers.iter().position(|server| *server == pick.server);
+        if let Some(count) = place.and_then(|place| self.at.get_mut(place)) {
+            *count = count.wrapping_add(1);
         }
-        let e = plan[i];
-        if point <= e.position {
-            return e;
-        }
-        i += 1;
+        self.recorded = self.recorded.wrapping_add(u32::from(pick.flag));
     }
-    plan[0]
+}
+
+// The keys, each led as `pick` says.
+fn counted<F: Fn(u32) -> Pick>(points: &[u32], servers: &[u32], pick: F) -> Counts
+    requires { F.IsAlwaysCallable pick }
+{
+    let mut counts = Counts {
+        at: [0; sets::MOST_SERVERS],
+        recorded: 0,
+    };
+    for &point in points {
+        counts.add(servers, pick(point));
+    }
+    counts
 }
 
 // What an entry says.
-fn said(e: Entry) -> Pick {
+fn said(entry: Entry) -> Pick {
     Pick {
-        server: e.server,
-        flag: e.track != 0,
-    }
-}
-
-// The keys by the ring.
-fn by_ring(counts: &mut [u32], points: &[u32], servers: &[u32], states: &[u8]) {
-    let plan = ringplan::plan(servers, states);
-    let n = servers.len();
-    let mut i = 0;
-    while i < points.len() {
-        let p = said(read(plan, n, points[i]));
-        tally(counts, servers, p);
-        i += 1;
-    }
-}
-
-// The keys by rows that are filled.
-fn by_filled(
-    counts: &mut [u32],
-    points: &[u32],
-    servers: &[u32],
-    chosen: &[u32],
-    flags: &[u8],
-    rows: u16,
-) {
-    let mut i = 0;
-    while i < points.len() {
-        let p = rows::read(chosen, flags, rows, points[i]);
-        tally(counts, servers, p);
-        i += 1;
+        server: entry.server,
+        flag: entry.track != 0,
     }
 }
 
 // The keys by rows.
-fn by_rows(counts: &mut [u32], points: &[u32], servers: &[u32], states: &[u8], rows: u16) {
-    let mut chosen = [0u32; 4096];
-    let mut flags = [0u8; 4096];
+fn by_rows(points: &[u32], servers: &[u32], states: &[u8], rows: u16) -> Counts {
+    let mut chosen = [0u32; rows::ROW_PLACES];
+    let mut flags = [0u8; rows::ROW_PLACES];
     rows::fill(&mut chosen, &mut flags, rows, servers, states);
-    by_filled(counts, points, servers, &chosen, &flags, rows);
+    counted(
+        points,
+        servers,
+        |point| rows::read(&chosen, &flags, rows, point),
+    )
 }
 
-// The keys by a method: 1 HRW, 2 ring, else rows.
-pub(crate) fn by(
-    method: u32,
-    rows: u16,
-    points: &[u32],
-    servers: &[u32],
-    states: &[u8],
-) -> [u32; 65] {
-    let mut counts = [0u32; 65];
+// The keys by the ring.
+fn by_ring(points: &[u32], servers: &[u32], states: &[u8]) -> Counts {
+    let plan = ringplan::plan(servers, states);
+    counted(
+        points,
+        servers,
+        |point| said(ring::read(&plan, servers.len(), point)),
+    )
+}
+
+// The keys by a method.
+pub(crate) fn by(method: Method, points: &[u32], servers: &[u32], states: &[u8]) -> Counts {
     match method {
-        1 => by_hrw(&mut counts, points, servers, states),
-        2 => by_ring(&mut counts, points, servers, states),
-        _ => by_rows(&mut counts, points, servers, states, rows),
+        Method::Hrw => counted(
+            points,
+            servers,
+            |point| hrw::pick(servers, states, hash::digest(point)),
+        ),
+        Method::Ring => by_ring(points, servers, states),
+        Method::Rows(rows) => by_rows(points, servers, states, rows),
     }
-    counts
 }

@@ -1,15 +1,21 @@
 // A front door under HRW with the balancer's own parts: a table, and the choice with its safety. Every session sends a packet in
 // turn, and movers join and leave between such rounds.
-use crate::{counts, keys};
-use table::Found;
+use crate::keys::Stream;
+use crate::numbers;
+use sets::{STANDBY, WORKING};
+use std::fmt;
+use table::{Found, KEY_BYTES, RECORD_BYTES};
+
+// How many movers a door has.
+pub(crate) const MOVERS: usize = 16;
 
 // What a round of packets came to: sessions that found no room, sessions led elsewhere although their last mover works, and sessions
 // led elsewhere because it doesn't.
-#[derive(Clone, Copy)]
+#[derive(Clone, Copy, Default)]
 pub struct Sent {
-    pub no_room: u32,
-    pub moved: u32,
-    pub left: u32,
+    no_room: u32,
+    moved: u32,
+    left: u32,
 }
 
 // Where a packet goes, and whether it should have been recorded and found no room.
@@ -19,104 +25,102 @@ struct Led {
     no_room: bool,
 }
 
-// A packet of a key without a record, where n records are used.
-fn chosen(table: &mut [u8], servers: &[u32], states: &[u8], key: [u8; 13], n: usize) -> Led {
-    let p = hrw::pick(servers, states, hash::digest(hash::fnv(&key)));
-    if !p.flag {
-        return Led {
-            server: p.server,
-            no_room: false,
-        };
-    }
-    let room = n < table.len() / table::RECORD_BYTES;
-    table::write_after(table, n, key, p.server);
-    Led {
-        server: p.server,
-        no_room: !room,
-    }
+// A table, and the movers' numbers and states.
+#[derive(Drop)]
+pub struct Door<'a> {
+    table: &'a mut [u8],
+    servers: [u32; MOVERS],
+    states: [u8; MOVERS],
 }
 
-// A packet of a key.
-fn packet(table: &mut [u8], servers: &[u32], states: &[u8], key: [u8; 13]) -> Led {
-    let found = table::find(table, key);
-    match found {
-        Found::At(place) => Led {
-            server: table::server_at(table, place),
-            no_room: false,
-        },
-        Found::Nothing(n) => chosen(table, servers, states, key, n),
-    }
-}
-
-// Whether a server works.
-fn works(servers: &[u32], states: &[u8], server: u32) -> bool {
-    let place = counts::place_of(servers, server);
-    if place < servers.len() {
-        if place < states.len() {
-            return states[place] == 1;
+impl<'a> Door<'a> {
+    // A door with no records, at which the movers in the first places work.
+    pub(crate) fn opened(table: &'a mut [u8], servers: [u32; MOVERS], working: usize) -> Door<'a> {
+        let mut states = [0u8; MOVERS];
+        numbers::states(&mut states, working);
+        table::start(table);
+        Door {
+            table,
+            servers,
+            states,
         }
     }
-    false
-}
 
-// One more where that is so.
-fn more_if(so: bool, n: u32) -> u32 {
-    if so {
-        return std::num::wrapping_add_u32(n, 1);
+    // How many records are used.
+    pub(crate) fn used(&self) -> usize {
+        table::used(self.table)
     }
-    n
-}
 
-// A round with one packet more, of a session that was at a mover before, or nowhere (0).
-fn with(r: Sent, led: Led, before: u32, works: bool) -> Sent {
-    Sent {
-        no_room: more_if(led.no_room, r.no_room),
-        moved: more_if(works && before != led.server, r.moved),
-        left: more_if(before != 0 && !works, r.left),
+    // A packet of a key.
+    fn packet(&mut self, key: [u8; KEY_BYTES]) -> Led {
+        match table::find(self.table, key) {
+            Found::At(place) => Led {
+                server: table::server_at(self.table, place),
+                no_room: false,
+            },
+            Found::Nothing(used) => self.chosen(key, used),
+        }
+    }
+
+    // A packet of a key without a record, where so many records are used.
+    fn chosen(&mut self, key: [u8; KEY_BYTES], used: usize) -> Led {
+        let pick = hrw::pick(&self.servers, &self.states, hash::digest(hash::fnv(&key)));
+        let full = used >= self.table.len() / RECORD_BYTES;
+        if pick.flag {
+            table::write_after(self.table, used, key, pick.server);
+        }
+        Led {
+            server: pick.server,
+            no_room: pick.flag && full,
+        }
+    }
+
+    // Whether a server works.
+    fn works(&self, server: u32) -> bool {
+        self.servers
+            .iter()
+            .zip(self.states.iter())
+            .any(|(held, state)| *held == server && *state == WORKING)
+    }
+
+    // Every session sends a packet; where each one went stands in `last`.
+    pub(crate) fn round(&mut self, last: &mut [Option<u32>]) -> Sent {
+        let mut sent = Sent::default();
+        let mut keys = Stream::of_keys();
+        for session in last.iter_mut() {
+            let led = self.packet(keys.bytes());
+            let works = session.is_some_and(|mover| self.works(mover));
+            sent.add(led, *session, works);
+            *session = Some(led.server);
+        }
+        sent
+    }
+
+    // The mover at a place goes to work.
+    pub(crate) fn join(&mut self, place: usize) {
+        self.states[place % MOVERS] = WORKING;
+    }
+
+    // The mover at a place leaves work for the horizon, and every record that names it goes.
+    pub(crate) fn leave(&mut self, place: usize) {
+        self.states[place % MOVERS] = STANDBY;
+        table::remove_server(self.table, self.servers[place % MOVERS]);
     }
 }
 
-// Every session sends a packet; where each one went stands in `last`.
-pub(crate) fn round(table: &mut [u8], servers: &[u32], states: &[u8], last: &mut [u32]) -> Sent {
-    let mut r = Sent {
-        no_room: 0,
-        moved: 0,
-        left: 0,
-    };
-    let mut x: u32 = 1;
-    let mut i = 0;
-    while i < last.len() {
-        let mut key = [0u8; 13];
-        x = keys::bytes(&mut key, x);
-        let before = last[i];
-        let led = packet(table, servers, states, key);
-        r = with(r, led, before, works(servers, states, before));
-        last[i] = led.server;
-        i += 1;
-    }
-    r
-}
-
-// No session is at a mover.
-pub(crate) fn forget(last: &mut [u32]) {
-    let mut i = 0;
-    while i < last.len() {
-        last[i] = 0;
-        i += 1;
+impl Sent {
+    // One packet more, of a session that was at a mover before, or nowhere; whether that mover works.
+    fn add(&mut self, led: Led, before: Option<u32>, works: bool) {
+        let moved = works && before != Some(led.server);
+        let left = before.is_some() && !works;
+        self.no_room = self.no_room.wrapping_add(u32::from(led.no_room));
+        self.moved = self.moved.wrapping_add(u32::from(moved));
+        self.left = self.left.wrapping_add(u32::from(left));
     }
 }
 
-// A state for the mover at a place.
-pub(crate) fn put(states: &mut [u8], place: usize, state: u8) {
-    if place < states.len() {
-        states[place] = state;
-    }
-}
-
-// The mover at a place leaves work for the horizon, and every record that names it goes.
-pub(crate) fn leave(table: &mut [u8], servers: &[u32], states: &mut [u8], place: usize) {
-    put(states, place, 2);
-    if place < servers.len() {
-        table::remove_server(table, servers[place]);
+impl fmt::Display for Sent {
+    fn fmt<W: fmt::Write>(&self, f: &mut fmt::Formatter<W>) -> fmt::Result {
+        write!(f, "{} {} {}", self.no_room, self.moved, self.left)
     }
 }

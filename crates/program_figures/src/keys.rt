@@ -1,30 +1,38 @@
 // The keys, and the stream that keys and spread server numbers are taken from.
+use std::array;
 
-// One step of the stream: x' = (1664525 x + 1013904223) mod 2^32.
-fn step(x: u32) -> u32 {
-    ((x as u64 * 1664525 + 1013904223) % 4294967296) as u32
+// A stream of numbers, each 1664525 times the one before and 1013904223, modulo 2^32. It gives the high byte of each.
+#[derive(Clone, Copy)]
+pub struct Stream {
+    number: u32,
 }
 
-// The next bytes of the stream, the high byte of each step; gives the last step's number.
-pub(crate) fn bytes(out: &mut [u8], start: u32) -> u32 {
-    let mut x = start;
-    let mut i = 0;
-    while i < out.len() {
-        x = step(x);
-        out[i] = (x / 16777216 % 256) as u8;
-        i += 1;
+impl Stream {
+    // The stream that keys are taken from.
+    pub(crate) fn of_keys() -> Stream {
+        Stream { number: 1 }
     }
-    x
+
+    // The stream that spread server numbers are taken from.
+    pub(crate) fn of_servers() -> Stream {
+        Stream { number: 2 }
+    }
+
+    // The next byte.
+    fn byte(&mut self) -> u8 {
+        self.number = self.number.wrapping_mul(1664525).wrapping_add(1013904223);
+        let [high, ..] = self.number.to_be_bytes();
+        high
+    }
+
+    // The next bytes, as many as a key or a number has.
+    pub(crate) fn bytes<const N: usize>(&mut self) -> [u8; N] {
+        array::from_fn(|_| self.byte())
+    }
 }
 
-// F of as many keys as there are places, each the next 13 bytes of the stream that starts at 1.
+// F of as many keys as there are places.
 pub(crate) fn points(out: &mut [u32]) {
-    let mut x: u32 = 1;
-    let mut i = 0;
-    while i < out.len() {
-        let mut key = [0u8; 13];
-        x = bytes(&mut key, x);
-        out[i] = hash::fnv(&key);
-        i += 1;
-    }
+    let mut keys = Stream::of_keys();
+    out.fill_with(|| hash::fnv(&keys.bytes::<{ table::KEY_BYTES }>()));
 }

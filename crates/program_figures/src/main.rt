@@ -17,9 +17,9 @@ mod evenness;
 mod keys;
 mod numbers;
 mod rounds;
-mod say;
 mod shares;
 
+use numbers::Numbers;
 use std::io;
 use std::process::ExitCode;
 
@@ -27,39 +27,38 @@ use std::process::ExitCode;
 fn over_keys(output: &impl Print) -> io::Result<()> {
     let mut points = [0u32; 20000];
     keys::points(&mut points);
-    evenness::of(output, &points, 1)?;
-    evenness::of(output, &points, 0)?;
+    evenness::of(output, &points, Numbers::spread())?;
+    evenness::of(output, &points, Numbers::consecutive())?;
     shares::all(output, &points)
 }
 
-// What sessions meet, packet by packet, at a table of 3,276 records.
-fn over_sessions(output: &impl Print) -> io::Result<()> {
-    let mut table = [0u8; table::MOST_TABLE_BYTES];
-    let mut few = [0u32; 3000];
-    let mut more = [0u32; 8000];
-    rounds::turns(output, &mut table, &mut few, 15, 10)?;
-    rounds::turns(output, &mut table, &mut few, 14, 10)?;
-    rounds::turns(output, &mut table, &mut few, 12, 10)?;
-    rounds::turns(output, &mut table, &mut more, 15, 1)?;
-    let mut margin = [0u32; 24954];
-    let mut mean = [0u32; 26208];
-    let mut above = [0u32; 28000];
-    let mut most = [0u32; 30000];
-    rounds::joins(output, &mut table, &mut margin)?;
-    rounds::joins(output, &mut table, &mut mean)?;
-    rounds::joins(output, &mut table, &mut above)?;
-    rounds::joins(output, &mut table, &mut most)
+// What sessions meet, packet by packet, while movers take turns.
+fn over_turns(output: &impl Print, table: &mut [u8]) -> io::Result<()> {
+    let mut few = [None; 3000];
+    let mut more = [None; 8000];
+    for working in [15usize, 14, 12] {
+        rounds::turns(output, table, &mut few, working, 10)?;
+    }
+    rounds::turns(output, table, &mut more, 15, 1)
 }
 
-// All figures.
+// What so many sessions meet while movers join.
+fn over_joins(output: &impl Print, table: &mut [u8]) -> io::Result<()> {
+    let mut last = [None; 30000];
+    for sessions in [24954usize, 26208, 28000, 30000] {
+        rounds::joins(output, table, &mut last[..sessions])?;
+    }
+    Ok(())
+}
+
+// All figures; those of sessions at a table of 3,276 records.
 fn figures(output: &impl Print) -> io::Result<()> {
+    let mut table = [0u8; table::MOST_TABLE_BYTES];
     over_keys(output)?;
-    over_sessions(output)
+    over_turns(output, &mut table)?;
+    over_joins(output, &mut table)
 }
 
 fn main(rt: HostRuntime) -> ExitCode {
-    match figures(&rt) {
-        Ok(()) => ExitCode::SUCCESS,
-        Err(_) => ExitCode::from(141),
-    }
+    inputs::status(figures(&rt))
 }

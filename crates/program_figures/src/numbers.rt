@@ -1,101 +1,56 @@
 // Server numbers in rising order, and their states, as the roster holds them.
-use crate::keys;
+use crate::keys::Stream;
+use sets::{STANDBY, WORKING};
+use std::fmt;
 
-// A number, and where the next one starts.
+// Where server numbers come from: each is four bytes of a stream, which spreads them over the whole range, or one more than the last.
 #[derive(Clone, Copy)]
-struct Next {
-    number: u32,
-    x: u32,
+pub enum Numbers {
+    Spread(Stream),
+    Consecutive(u32),
 }
 
-// The next spread number from x: the next four bytes of the stream.
-fn spread_from(x: u32) -> Next {
-    let mut four = [0u8; 4];
-    let after = keys::bytes(&mut four, x);
-    Next {
-        number: bigendian::join4(four[0], four[1], four[2], four[3]),
-        x: after,
+impl Numbers {
+    // The spread numbers.
+    pub(crate) fn spread() -> Numbers {
+        Numbers::Spread(Stream::of_servers())
+    }
+
+    // The numbers from 1 on.
+    pub(crate) fn consecutive() -> Numbers {
+        Numbers::Consecutive(0)
+    }
+
+    // The next number.
+    fn next(&mut self) -> u32 {
+        match self {
+            Numbers::Spread(stream) => u32::from_be_bytes(stream.bytes()),
+            Numbers::Consecutive(last) => {
+                *last = last.wrapping_add(1);
+                *last
+            }
+        }
+    }
+
+    // The next numbers, as many as there are places, in rising order.
+    pub(crate) fn draw(&mut self, servers: &mut [u32]) {
+        servers.fill_with(|| self.next());
+        servers.sort_unstable();
     }
 }
 
-// The next number from x: a spread one for 1, one more than x for 0.
-fn one_from(spread: u32, x: u32) -> Next {
-    if spread == 1 {
-        return spread_from(x);
+impl fmt::Display for Numbers {
+    fn fmt<W: fmt::Write>(&self, f: &mut fmt::Formatter<W>) -> fmt::Result {
+        f.write_str(match self {
+            Numbers::Spread(_) => "1",
+            Numbers::Consecutive(_) => "0",
+        })
     }
-    let number = std::num::wrapping_add_u32(x, 1);
-    Next {
-        number: number,
-        x: number,
-    }
-}
-
-// Where the first number starts: the stream of spread ones at 2; consecutive ones begin with 1.
-pub(crate) fn start(spread: u32) -> u32 {
-    if spread == 1 {
-        return 2;
-    }
-    0
-}
-
-// The lower of two numbers.
-fn lower(a: u32, b: u32) -> u32 {
-    if a < b {
-        return a;
-    }
-    b
-}
-
-// The higher of two numbers.
-fn higher(a: u32, b: u32) -> u32 {
-    if a < b {
-        return b;
-    }
-    a
-}
-
-// Puts one more number among the first n.
-fn put(servers: &mut [u32], n: usize, number: u32) {
-    if servers.len() <= n {
-        return;
-    }
-    let mut carried = number;
-    let mut i = 0;
-    while i < n {
-        let here = servers[i];
-        servers[i] = lower(here, carried);
-        carried = higher(here, carried);
-        i += 1;
-    }
-    servers[n] = carried;
-}
-
-// As many numbers as there are places, from a start; gives where the next draw starts.
-pub(crate) fn draw(servers: &mut [u32], spread: u32, start: u32) -> u32 {
-    let mut x = start;
-    let mut n = 0;
-    while n < servers.len() {
-        let one = one_from(spread, x);
-        put(servers, n, one.number);
-        x = one.x;
-        n += 1;
-    }
-    x
-}
-
-// 1 for a working server, 2 for one in the horizon.
-fn state(place: usize, working: usize) -> u8 {
-    if place < working {
-        return 1;
-    }
-    2
 }
 
 // The servers in the first places work, the others are in the horizon.
 pub(crate) fn states(states: &mut [u8], working: usize) {
-    let mut i = 0;
-    while i < states.len() {
-        states[i] = state(i, working);
-        i += 1;
-    }
+    let (first, others) = states.split_at_mut(working.min(states.len()));
+    first.fill(WORKING);
+    others.fill(STANDBY);
 }

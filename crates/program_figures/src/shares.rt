@@ -1,86 +1,63 @@
 // How many keys are recorded.
-use crate::{counts, numbers, say};
+use crate::counts::Method;
+use crate::numbers::Numbers;
+use crate::{counts, numbers};
 use std::io;
-
-// The method of a line, and its row count, which is 0 but for method 3; how often numbers are drawn.
-#[derive(Clone, Copy)]
-struct How {
-    method: u32,
-    rows: u16,
-    draws: u32,
-}
 
 // A line: working, horizon, method and row count; the recorded keys of each draw of spread numbers.
 fn line(
     output: &impl Print,
     points: &[u32],
     servers: &mut [u32],
-    working: u32,
-    how: How,
+    working: usize,
+    method: Method,
+    draws: u32,
 ) -> io::Result<()> {
-    let mut states = [0u8; 64];
-    numbers::states(&mut states, working as usize);
-    let held = say::low(servers.len());
-    say::word(output, b"share")?;
-    say::three(
-        output,
-        working,
-        std::num::wrapping_sub_u32(held, working),
-        how.method,
-    )?;
-    say::number(output, how.rows as u32)?;
-    let mut x = numbers::start(1);
-    let mut n: u32 = 0;
-    while n < how.draws {
-        x = numbers::draw(servers, 1, x);
-        let counts = counts::by(how.method, how.rows, points, servers, &states);
-        say::number(output, counts[64])?;
-        n += 1;
+    let mut states = [0u8; sets::MOST_SERVERS];
+    numbers::states(&mut states, working);
+    let horizon = servers.len().saturating_sub(working);
+    inputs::heard(print!(output; "share {working} {horizon} {method}"))?;
+    let mut numbers = Numbers::spread();
+    for _ in 0..draws {
+        numbers.draw(servers);
+        let counts = counts::by(method, points, servers, &states);
+        inputs::number(output, u64::from(counts.recorded))?;
     }
-    say::end(output)
-}
-
-// How, by its parts.
-fn by(method: u32, rows: u16, draws: u32) -> How {
-    How {
-        method: method,
-        rows: rows,
-        draws: draws,
-    }
+    inputs::text(output, b"\n")
 }
 
 // Ten draws by each method, the third with 4,096 rows and with 256; a hundred under the ring.
-fn lines(output: &impl Print, points: &[u32], servers: &mut [u32], working: u32) -> io::Result<()> {
-    line(output, points, servers, working, by(1, 0, 10))?;
-    line(output, points, servers, working, by(2, 0, 100))?;
-    line(output, points, servers, working, by(3, 4096, 10))?;
-    line(output, points, servers, working, by(3, 256, 10))
-}
-
-// So many working servers and so many in the horizon.
-fn of(
+fn lines(
     output: &impl Print,
     points: &[u32],
     servers: &mut [u32],
-    working: u32,
-    horizon: u32,
+    working: usize,
 ) -> io::Result<()> {
-    let n = working as usize + horizon as usize;
-    if servers.len() < n {
-        return Ok(());
+    for (method, draws) in [
+        (Method::Hrw, 10),
+        (Method::Ring, 100),
+        (Method::Rows(4096), 10),
+        (Method::Rows(256), 10),
+    ] {
+        line(output, points, servers, working, method, draws)?;
     }
-    lines(output, points, &mut servers[0..n], working)
+    Ok(())
 }
 
-// Several horizons.
+// Several horizons: so many working servers, and so many beside them.
 pub(crate) fn all(output: &impl Print, points: &[u32]) -> io::Result<()> {
-    let mut servers = [0u32; 64];
-    of(output, points, &mut servers, 8, 1)?;
-    of(output, points, &mut servers, 8, 2)?;
-    of(output, points, &mut servers, 8, 4)?;
-    of(output, points, &mut servers, 8, 8)?;
-    of(output, points, &mut servers, 14, 2)?;
-    of(output, points, &mut servers, 16, 4)?;
-    of(output, points, &mut servers, 32, 1)?;
-    of(output, points, &mut servers, 32, 8)
+    let mut servers = [0u32; sets::MOST_SERVERS];
+    for (working, horizon) in [
+        (8usize, 1usize),
+        (8, 2),
+        (8, 4),
+        (8, 8),
+        (14, 2),
+        (16, 4),
+        (32, 1),
+        (32, 8),
+    ] {
+        lines(output, points, &mut servers[..working + horizon], working)?;
+    }
+    Ok(())
 }
