@@ -1,77 +1,65 @@
 // Steps of the methods, for given servers: side by side with their states in the first places of a roster, in any order.
+use crate::rowsets::RowSet;
 use crate::script::Step;
-use crate::{picks, rings, rowsets};
+use crate::{picks, rings};
 use roster::Roster;
+use sets::{STANDBY, WORKING};
 use std::io;
 
-// One server more, working (1) or in the horizon (2), where there is room.
-fn with(r: Roster, server: u32, state: u8) -> Roster {
-    let at = r.held;
-    let mut next = r;
-    if 64 <= at {
-        return next;
-    }
-    next.servers[at] = server;
-    next.states[at] = state;
-    next.held = at + 1;
-    next
+// The servers that a method is given, each with its state at the same index.
+// Stays (6): `hrw::pick`, `rows::fill` and `ringplan::plan` take servers and their states as two slices.
+#[derive(Clone, Copy)]
+pub struct Given<'a> {
+    pub servers: &'a [u32],
+    pub states: &'a [u8],
 }
 
-// 64 servers, the multiples of a step modulo 2^32, working and in the horizon by turns.
-fn many(step: u32) -> Roster {
-    let mut r = roster::empty();
-    let mut server: u32 = 0;
-    let mut i: u8 = 0;
-    while i < 64 {
-        server = std::num::wrapping_add_u32(server, step);
-        r = with(r, server, i % 2 + 1);
-        i += 1;
+// One server more, working or in the horizon, where there is room.
+fn with(mut r: Roster, server: u32, state: u8) -> Roster {
+    let at = r.held;
+    if at < r.servers.len() {
+        r.servers[at] = server;
+        r.states[at] = state;
+        r.held = at + 1;
     }
     r
 }
 
+// 64 servers, the multiples of a step modulo 2^32, working and in the horizon by turns.
+fn many(step: u32) -> Roster {
+    (1..65u32).fold(roster::empty(), |r, n| {
+        let state = if n % 2 == 1 { WORKING } else { STANDBY };
+        with(r, step.wrapping_mul(n), state)
+    })
+}
+
 // The servers after a step: none, one more working or in the horizon, or many.
-fn changed(r: Roster, op: u8, b: u32) -> Roster {
-    match op {
-        b'n' => roster::empty(),
-        b'w' => with(r, b, 1),
-        b'h' => with(r, b, 2),
-        b'm' => many(b),
+fn changed(r: Roster, s: Step) -> Roster {
+    match s.word {
+        Some(b'n') => roster::empty(),
+        Some(b'w') => with(r, s.b, WORKING),
+        Some(b'h') => with(r, s.b, STANDBY),
+        Some(b'm') => many(s.b),
         _ => r,
     }
 }
 
-// What a step does to the rows for the servers in the first places of a list, and what it shows of rows, picks and ring.
-fn shown(
-    output: &impl Print,
-    chosen: &mut [u32],
-    flags: &mut [u8],
-    places: &[u32],
-    states: &[u8],
-    held: usize,
-    s: Step,
-) -> io::Result<()> {
-    if places.len() < held {
-        return Ok(());
-    }
-    let servers = &places[0..held];
-    rowsets::change(chosen, flags, servers, states, s.op, s.b);
-    rowsets::show(output, chosen, flags, s.op, s.a, s.b)?;
-    picks::show(output, servers, states, s.op, s.a, s.b)?;
-    rings::show(output, servers, states, s.op, s.b)
-}
-
-// A step is done, and its outcome printed. The servers from then on.
+// A step is done, and what it shows of rows, picks and ring is printed. The servers from then on.
 pub(crate) fn step(
     output: &impl Print,
-    chosen: &mut [u32],
-    flags: &mut [u8],
+    rows: &mut RowSet,
     r: Roster,
     s: Step,
 ) -> io::Result<Roster> {
-    let next = changed(r, s.op, s.b);
-    let servers = next.servers;
-    let states = next.states;
-    shown(output, chosen, flags, &servers, &states, next.held, s)?;
+    let next = changed(r, s);
+    let n = next.held.min(next.servers.len());
+    let given = Given {
+        servers: &next.servers[..n],
+        states: &next.states[..n],
+    };
+    rows.change(given, s);
+    rows.show(output, s)?;
+    picks::show(output, given, s)?;
+    rings::show(output, given, s)?;
     Ok(next)
 }

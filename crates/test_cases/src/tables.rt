@@ -1,13 +1,12 @@
 // Tables damaged, full, and longer than allowed, and event records in the same buffer.
-use crate::script::Step;
+use crate::script::{self, Step};
 use crate::{events, say};
 use std::io;
 use table::Found;
 
 // The n-th key: 10.0.h.l to 192.0.2.1, port n to port 443, protocol 6.
 fn key_of(n: u32) -> [u8; 13] {
-    let h = (n / 256 % 256) as u8;
-    let l = (n % 256) as u8;
+    let [_, _, h, l] = n.to_be_bytes();
     [10, 0, h, l, 192, 0, 2, 1, h, l, 1, 187, 6]
 }
 
@@ -24,53 +23,46 @@ fn append(t: &mut [u8], n: u32) {
 
 // The first n records.
 fn fill(t: &mut [u8], n: u32) {
-    let mut i: u32 = 0;
-    while i < n {
+    for i in 0..n {
         put(t, i as usize, i + 1);
-        i += 1;
-    }
-}
-
-// A byte written by someone else.
-fn poke(t: &mut [u8], i: usize, value: u8) {
-    if i < t.len() {
-        t[i] = value;
     }
 }
 
 // What a step does to the table: start, fill, append, half-close, remove, leave or poke.
-fn change(t: &mut [u8], op: u8, a: u32, b: u32) {
-    match op {
-        b's' => table::start(t),
-        b'f' => fill(t, b),
-        b'a' => append(t, b),
-        b'c' => table::half_close(t, b as usize),
-        b'r' => table::remove(t, b as usize),
-        b'l' => table::remove_server(t, b),
-        b'p' => poke(t, a as usize, (b % 256) as u8),
+fn change(t: &mut [u8], s: Step) {
+    let Step { word, a, b } = s;
+    match word {
+        Some(b's') => table::start(t),
+        Some(b'f') => fill(t, b),
+        Some(b'a') => append(t, b),
+        Some(b'c') => table::half_close(t, b as usize),
+        Some(b'r') => table::remove(t, b as usize),
+        Some(b'l') => table::remove_server(t, b),
+        Some(b'p') => script::poke(t, a as usize, (b % 256) as u8),
         _ => (),
     }
 }
 
 // A key's record: whether there is one, its place or how many records were read in vain, and the server that it names.
 fn seek(output: &impl Print, t: &[u8], n: u32) -> io::Result<()> {
-    let found = table::find(t, key_of(n));
-    match found {
-        Found::At(place) => say::three(output, 1, place as u64, table::server_at(t, place) as u64),
-        Found::Nothing(used) => say::three(output, 0, used as u64, 0),
-    }
+    let figures = match table::find(t, key_of(n)) {
+        Found::At(place) => [1, place as u64, u64::from(table::server_at(t, place))],
+        Found::Nothing(used) => [0, used as u64, 0],
+    };
+    say::numbers(output, &figures)
 }
 
-// What a step shows: a key's record, a place's tag, what the bytes ask as an event record, a hash or dump of the bytes, how many bytes there are, or records used.
-fn show(output: &impl Print, t: &[u8], op: u8, b: u32) -> io::Result<()> {
-    match op {
-        b'k' => seek(output, t, b),
-        b'w' => say::number(output, table::tag_at(t, b as usize) as u64),
-        b'e' => events::asked(output, t),
-        b'h' => say::number(output, hash::fnv(t) as u64),
-        b'd' => say::bytes(output, t),
-        b'b' => say::number(output, t.len() as u64),
-        b'u' => say::number(output, table::used(t) as u64),
+// What a step shows: a key's record, a place's tag, what the bytes ask as an event record, a hash or dump of the bytes, how many bytes
+// there are, or records used.
+fn show(output: &impl Print, t: &[u8], s: Step) -> io::Result<()> {
+    match s.word {
+        Some(b'k') => seek(output, t, s.b),
+        Some(b'w') => inputs::number(output, u64::from(table::tag_at(t, s.b as usize))),
+        Some(b'e') => events::asked(output, t),
+        Some(b'h') => inputs::number(output, u64::from(hash::fnv(t))),
+        Some(b'd') => say::records(output, t),
+        Some(b'b') => inputs::number(output, t.len() as u64),
+        Some(b'u') => inputs::number(output, table::used(t) as u64),
         _ => Ok(()),
     }
 }
@@ -82,13 +74,12 @@ pub(crate) fn step(
     size: usize,
     s: Step,
 ) -> io::Result<usize> {
-    if s.op == b't' {
+    if s.word == Some(b't') {
         return Ok(s.b as usize);
     }
-    if buffer.len() < size {
-        return Ok(size);
+    if let Some(t) = buffer.get_mut(..size) {
+        change(t, s);
+        show(output, t, s)?;
     }
-    change(&mut buffer[0..size], s.op, s.a, s.b);
-    show(output, &buffer[0..size], s.op, s.b)?;
     Ok(size)
 }

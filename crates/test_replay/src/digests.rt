@@ -1,5 +1,7 @@
 // The rest of a line: the reply, and the digests of what was lent. A digest is FNV-1a 64 over the bytes that the model lays out
 // (tests/model/session.py), numbers big-endian.
+use crate::given::What;
+use answers::ReplyNumbers;
 use ring::Entry;
 use roster::Roster;
 use rules::Reply;
@@ -9,69 +11,47 @@ use test_byvalue::Tried;
 // What a digest of no bytes is.
 const NOTHING: u64 = 14695981039346656037;
 
-// One byte into a running digest: xored in, then multiplied by 2^40 + 435 modulo 2^64.
-fn step(h: u64, byte: u8) -> u64 {
-    let x = h ^ (byte as u64);
-    let low = x % 4294967296 * 435;
-    let high = x / 4294967296 % 4294967296 * 435 % 4294967296 * 4294967296;
-    let shifted = x % 16777216 * 1099511627776;
-    std::num::wrapping_add_u64(std::num::wrapping_add_u64(low, high), shifted)
+// What a digest is multiplied by at each byte, modulo 2^64: 2^40 + 435.
+const FACTOR: u64 = 1099511628211;
+
+// What can go into a digest.
+trait Digested {
+    // A running digest with this behind it.
+    fn behind(&self, h: u64) -> u64;
 }
 
-// The four bytes of a number into a running digest.
-fn step4(h: u64, n: u32) -> u64 {
-    let b = bigendian::split4(n);
-    over_bytes(h, &b)
-}
-
-// Bytes into a running digest.
-fn over_bytes(start: u64, bytes: &[u8]) -> u64 {
-    let mut h = start;
-    let mut i = 0;
-    while i < bytes.len() {
-        h = step(h, bytes[i]);
-        i += 1;
+impl Digested for u8 {
+    fn behind(&self, h: u64) -> u64 {
+        (h ^ u64::from(*self)).wrapping_mul(FACTOR)
     }
-    h
 }
 
-// Numbers into a running digest.
-fn over_numbers(start: u64, numbers: &[u32]) -> u64 {
-    let mut h = start;
-    let mut i = 0;
-    while i < numbers.len() {
-        h = step4(h, numbers[i]);
-        i += 1;
+impl Digested for u32 {
+    fn behind(&self, h: u64) -> u64 {
+        over(h, &self.to_be_bytes())
     }
-    h
 }
 
-// The entries of a ring into a running digest.
-fn over_ring(start: u64, ring: [Entry; 64]) -> u64 {
-    let mut h = start;
-    let mut i = 0;
-    while i < 64 {
-        let e = ring[i];
-        h = step(step4(step4(h, e.position), e.server), e.track);
-        i += 1;
+impl Digested for Entry {
+    fn behind(&self, h: u64) -> u64 {
+        self.track
+            .behind(self.server.behind(self.position.behind(h)))
     }
-    h
 }
 
-// The servers, states, count and settings of a roster into a running digest.
-fn over_roster(start: u64, r: Roster) -> u64 {
-    let servers = r.servers;
-    let states = r.states;
-    let settings = r.settings;
-    let held = r.held as u64;
-    let named = over_bytes(over_numbers(start, &servers), &states);
-    let counted = step4(
-        step4(named, (held / 4294967296) as u32),
-        (held % 4294967296) as u32,
-    );
-    let chosen = step(counted, settings.method);
-    let rows = settings.rows;
-    step(step(chosen, (rows / 256) as u8), (rows % 256) as u8)
+impl Digested for Roster {
+    // The servers, states, count and settings.
+    fn behind(&self, h: u64) -> u64 {
+        let named = over(over(h, &self.servers), &self.states);
+        let counted = over(named, &(self.held as u64).to_be_bytes());
+        let chosen = self.settings.method.behind(counted);
+        over(chosen, &self.settings.rows.to_be_bytes())
+    }
+}
+
+// All of a slice into a running digest.
+fn over<T: Digested>(start: u64, all: &[T]) -> u64 {
+    all.iter().fold(start, |h, x| x.behind(h))
 }
 
 // Prints a space and a digest.
@@ -79,48 +59,39 @@ fn digest(output: &impl Print, h: u64) -> io::Result<()> {
     inputs::heard(print!(output; " {h:016x}"))
 }
 
-// Prints a space and a number.
-fn next(output: &impl Print, n: u64) -> io::Result<()> {
-    inputs::heard(print!(output; " {n}"))
-}
-
 // Prints a space before each of: refusal (0 if accepted), server, mark, reads.
 fn told(output: &impl Print, reply: Reply) -> io::Result<()> {
-    let n = answers::numbers(reply);
-    next(output, n.refusal as u64)?;
-    next(output, n.server as u64)?;
-    next(output, n.mark as u64)?;
-    next(output, n.reads as u64)
+    let n = ReplyNumbers::from(reply);
+    inputs::number(output, u64::from(n.refusal))?;
+    inputs::number(output, u64::from(n.server))?;
+    inputs::number(output, u64::from(n.mark))?;
+    inputs::number(output, n.reads as u64)
 }
 
 // Prints the digests of ring and roster; a ring of 63 entries has none.
-fn rest(output: &impl Print, what: u32, ring: [Entry; 64], roster: Roster) -> io::Result<()> {
-    if what == 1 {
-        inputs::heard(output.write_all(b" -"))?;
-    } else {
-        digest(output, over_ring(NOTHING, ring))?;
+fn rest(output: &impl Print, what: What, ring: &[Entry], roster: Roster) -> io::Result<()> {
+    match what {
+        What::Short => inputs::text(output, b" -")?,
+        What::Event | What::Start => digest(output, over(NOTHING, ring))?,
     }
-    digest(output, over_roster(NOTHING, roster))?;
-    inputs::heard(output.write_all(b"\n"))
+    digest(output, roster.behind(NOTHING))?;
+    inputs::text(output, b"\n")
 }
 
 // Prints what an event left.
 pub(crate) fn line(
     output: &impl Print,
-    what: u32,
+    what: What,
     tried: Tried,
     table: &[u8],
     rows: &[u32],
     flags: &[u8],
 ) -> io::Result<()> {
-    let outcome = tried.outcome;
-    let ring = tried.ring;
-    let reply = outcome.reply;
-    let roster = outcome.roster;
-    told(output, reply)?;
-    next(output, table::used(table) as u64)?;
-    digest(output, over_bytes(NOTHING, table))?;
-    digest(output, over_numbers(NOTHING, rows))?;
-    digest(output, over_bytes(NOTHING, flags))?;
-    rest(output, what, ring, roster)
+    let Tried { outcome, ring } = tried;
+    told(output, outcome.reply)?;
+    inputs::number(output, table::used(table) as u64)?;
+    digest(output, over(NOTHING, table))?;
+    digest(output, over(NOTHING, rows))?;
+    digest(output, over(NOTHING, flags))?;
+    rest(output, what, &ring, outcome.roster)
 }

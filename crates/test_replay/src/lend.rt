@@ -1,117 +1,63 @@
-// The slices are written, lent, and what comes of it is printed.
-ghost use Rattle.std.specs.Prelude.{◌≤◌};
-
-use crate::given::Given;
-use crate::{digests, given};
-use ring::Entry;
-use roster::Roster;
+// The buffers are written, lent, and what comes of it is printed.
+use crate::digests;
+use crate::given::{Given, What};
 use std::io;
 use test_byvalue::Tried;
 
-// 9 in every row.
-pub(crate) fn nines(rows: &mut [u32]) {
-    let n = rows.len();
-    let mut i = 0;
-    while i < n {
-        rows[i] = 9;
-        i += 1;
+// The buffers, as long as any line needs them.
+#[derive(Drop)]
+pub struct Buffers {
+    pub table: [u8; 65540],
+    pub rows: [u32; 4097],
+    pub flags: [u8; 4097],
+}
+
+impl Buffers {
+    // Zeros in table and flags, and one number in the rows.
+    pub(crate) fn fill(&mut self, server: u32) {
+        self.table.fill(0);
+        self.rows.fill(server);
+        self.flags.fill(0);
+    }
+
+    // A line's end: what is lent is cut to its lengths, and the event or the start is done on it and printed. What is given next.
+    pub(crate) fn act(&mut self, output: &impl Print, g: Given) -> io::Result<Given> {
+        let Given {
+            event,
+            lengths: [e, a, b, c],
+            what,
+            ring,
+            roster,
+        } = g;
+        let record = &event[..e.min(event.len())];
+        let table = front(&mut self.table, a);
+        let rows = front(&mut self.rows, b);
+        let flags = front(&mut self.flags, c);
+        let tried = match what {
+            What::Event => test_byvalue::event(record, table, rows, flags, ring, roster),
+            What::Short => Tried {
+                outcome: test_byvalue::event_short(record, table, rows, flags, roster),
+                ring,
+            },
+            What::Start => Tried {
+                outcome: test_byvalue::start(table, rows, flags, ring, roster),
+                ring,
+            },
+        };
+        digests::line(output, what, tried, table, rows, flags)?;
+        Ok(g.after(tried))
     }
 }
 
-// A byte is written, where there is one.
-pub(crate) fn put(bytes: &mut [u8], at: usize, value: u32) {
-    if at < bytes.len() {
-        bytes[at] = (value % 256) as u8;
+// A value is written, where there is a place for it.
+pub(crate) fn put<T: Copy>(all: &mut [T], at: usize, value: T) {
+    if let Some(place) = all.get_mut(at) {
+        *place = value;
     }
 }
 
-// A row is written, where there is one.
-pub(crate) fn choose(rows: &mut [u32], at: usize, value: u32) {
-    if at < rows.len() {
-        rows[at] = value;
-    }
-}
-
-// A number, but at most a length.
-fn within(n: u32, length: usize) -> usize
-    ensures { result ≤ length }
-{
-    if n as usize <= length {
-        return n as usize;
-    }
-    length
-}
-
-// The event or the start.
-fn done(
-    what: u32,
-    record: &[u8],
-    table: &mut [u8],
-    rows: &mut [u32],
-    flags: &mut [u8],
-    ring: [Entry; 64],
-    roster: Roster,
-) -> Tried {
-    match what {
-        0 => test_byvalue::event(record, table, rows, flags, ring, roster),
-        1 => {
-            let refused = test_byvalue::event_short(record, table, rows, flags, roster);
-            Tried {
-                outcome: refused,
-                ring: ring,
-            }
-        }
-        _ => {
-            let started = test_byvalue::start(table, rows, flags, ring, roster);
-            Tried {
-                outcome: started,
-                ring: ring,
-            }
-        }
-    }
-}
-
-// The event or the start, and its line.
-fn met(
-    output: &impl Print,
-    what: u32,
-    record: &[u8],
-    table: &mut [u8],
-    rows: &mut [u32],
-    flags: &mut [u8],
-    ring: [Entry; 64],
-    roster: Roster,
-) -> io::Result<Tried> {
-    let tried = done(what, record, table, rows, flags, ring, roster);
-    digests::line(output, what, tried, table, rows, flags)?;
-    Ok(tried)
-}
-
-// A line's end: what is lent is cut to its lengths and met. What is given next.
-pub(crate) fn act(
-    output: &impl Print,
-    table: &mut [u8],
-    rows: &mut [u32],
-    flags: &mut [u8],
-    g: Given,
-) -> io::Result<Given> {
-    let numbers = g.numbers;
-    let event = g.event;
-    let ring = g.ring;
-    let roster = g.roster;
-    let e = within(numbers[0], 16);
-    let a = within(numbers[1], table.len());
-    let b = within(numbers[2], rows.len());
-    let c = within(numbers[3], flags.len());
-    let tried = met(
-        output,
-        numbers[4],
-        &event[..e],
-        &mut table[..a],
-        &mut rows[..b],
-        &mut flags[..c],
-        ring,
-        roster,
-    )?;
-    Ok(given::after(g, tried))
+// The first n of a slice, or all where there are fewer.
+fn front<T>(all: &mut [T], n: usize) -> &mut [T] {
+    let n = n.min(all.len());
+    &mut all[..n]
 }

@@ -15,66 +15,54 @@ mod lend;
 mod script;
 
 use given::Given;
-use script::Step;
+use lend::Buffers;
+use script::{Deed, Step};
 use std::io;
 use std::process::ExitCode;
 
-// What a character does: a colon starts afresh, with zeros in table and flags, 9 in the rows and entries that name 9; a comma or a space
-// behind a number writes it; a line's end does the event.
-fn turn(
-    output: &impl Print,
-    table: &mut [u8],
-    rows: &mut [u32],
-    flags: &mut [u8],
-    g: Given,
-    s: Step,
-    c: u8,
-) -> io::Result<Given> {
-    let op = script::done(s, c);
-    match op {
-        0 => Ok(g),
-        10 => lend::act(output, table, rows, flags, g),
-        b':' => {
-            spans::clear(table);
-            spans::clear(flags);
-            lend::nines(rows);
-            Ok(given::blank(given::naming(4294967295, 9)))
-        }
-        b't' => {
-            lend::put(table, s.at, s.value);
-            Ok(g)
-        }
-        b'f' => {
-            lend::put(flags, s.at, s.value);
-            Ok(g)
-        }
-        b'c' => {
-            lend::choose(rows, s.at, s.value);
-            Ok(g)
-        }
-        _ => Ok(given::changed(g, op, s.at, s.value)),
-    }
+// What the lines write: the buffers, what is given beside them, and the step that is being read.
+#[derive(Drop)]
+struct Session {
+    buffers: Buffers,
+    given: Given,
+    step: Step,
 }
 
-// Every character.
-fn run(
-    output: &impl Print,
-    text: &[u8],
-    table: &mut [u8],
-    rows: &mut [u32],
-    flags: &mut [u8],
-) -> io::Result<()> {
-    let mut g = given::blank(given::naming(0, 0));
-    let mut s = script::line();
-    let mut i = 0;
-    while i < text.len() {
-        let c = text[i];
-        i += 1;
-        script::name(output, s, c)?;
-        g = turn(output, table, rows, flags, g, s, c)?;
-        s = script::read(s, c);
+impl Session {
+    // What a character does: a colon starts afresh, with zeros in table and flags, 9 in the rows and entries that name 9; a comma or a
+    // space behind a number writes it; a line's end does the event.
+    fn turn(&mut self, output: &impl Print, c: u8) -> io::Result<()> {
+        match self.step.done(c) {
+            Some(Deed::Event) => self.given = self.buffers.act(output, self.given)?,
+            Some(Deed::Afresh) => {
+                self.buffers.fill(9);
+                self.given = Given::blank(4294967295, 9);
+            }
+            Some(Deed::Write { op, at, value }) => self.write(op, at, value),
+            None => (),
+        }
+        Ok(())
     }
-    Ok(())
+
+    // A number is written: a byte of the table or of the flags, a row, or what is given beside them.
+    fn write(&mut self, op: u8, at: usize, value: u32) {
+        match op {
+            b't' => lend::put(&mut self.buffers.table, at, (value % 256) as u8),
+            b'f' => lend::put(&mut self.buffers.flags, at, (value % 256) as u8),
+            b'c' => lend::put(&mut self.buffers.rows, at, value),
+            _ => self.given = self.given.changed(op, at, value),
+        }
+    }
+
+    // Every character.
+    fn run(&mut self, output: &impl Print, text: &[u8]) -> io::Result<()> {
+        for &c in text {
+            self.step.name(output, c)?;
+            self.turn(output, c)?;
+            self.step = self.step.read(c);
+        }
+        Ok(())
+    }
 }
 
 // Room for a million characters.
@@ -86,13 +74,16 @@ fn room() -> [u8; 1048576]
 
 // The lines from standard input, on buffers as long as any of them needs.
 fn main(rt: HostRuntime) -> ExitCode {
+    let mut session = Session {
+        buffers: Buffers {
+            table: [0; 65540],
+            rows: [0; 4097],
+            flags: [0; 4097],
+        },
+        given: Given::blank(0, 0),
+        step: Step::Name,
+    };
     let mut text = room();
-    let mut table = [0u8; 65540];
-    let mut rows = [0u32; 4097];
-    let mut flags = [0u8; 4097];
     let n = inputs::read_full(&mut rt.stdin(), &mut text);
-    match run(&rt, &text[..n], &mut table, &mut rows, &mut flags) {
-        Ok(()) => ExitCode::SUCCESS,
-        Err(_) => ExitCode::from(141),
-    }
+    inputs::status(session.run(&rt, &text[..n]))
 }

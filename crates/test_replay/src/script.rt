@@ -1,114 +1,88 @@
-// Lines as text: a name, then steps, each with a comma behind it. A step is a word, an index and numbers for that index and those behind it.
+// Lines as text: a name, then steps, each with a comma behind it. A step is a word, an index and numbers for that index and those behind
+// it.
 use std::io;
 
-// What was read of a line: 0 for the name, 1 for a word, 2 for an index, 3 for a number; the word's first letter, the index, the number.
+// What was read of a line: its name; or of a step the word's first letter; the index too; or the number for an index.
 #[derive(Clone, Copy)]
-pub struct Step {
-    pub part: u8,
-    pub op: u8,
-    pub at: usize,
-    pub value: u32,
+// Stays (7): a word is known by its first letter, which is matched once, where it writes.
+pub enum Step {
+    Name,
+    Word(Option<u8>),
+    Index { op: u8, at: u32 },
+    Number { op: u8, at: usize, value: u32 },
 }
 
-// Nothing read of a line.
-pub(crate) fn line() -> Step {
-    Step {
-        part: 0,
-        op: 0,
-        at: 0,
-        value: 0,
-    }
+// What there is to be done: a line's event, all that is lent afresh, or a number written, by the first letter of its word.
+#[derive(Clone, Copy)]
+pub enum Deed {
+    Event,
+    Afresh,
+    Write { op: u8, at: usize, value: u32 },
 }
 
-// A character of a name is printed; an equals sign is not.
-pub(crate) fn name(output: &impl Print, s: Step, c: u8) -> io::Result<()> {
-    let one = [c];
-    if s.part != 0 {
-        return Ok(());
-    }
-    if c != b'=' {
-        inputs::heard(output.write_all(&one))?;
-    }
-    Ok(())
-}
-
-// What there is to be done: 0 nothing, else a colon, a line's end, or the first letter of the word whose number has ended.
-pub(crate) fn done(s: Step, c: u8) -> u8 {
-    let part = s.part;
-    match c {
-        10 => c,
-        b':' => c,
-        b' ' | b',' => {
-            if part == 3 {
-                return s.op;
-            }
-            0
-        }
-        _ => 0,
-    }
-}
-
-// A word, an index or a number ended: the next part of the step, or the same once more where it was a number.
-fn next(s: Step) -> Step {
-    let part = s.part;
-    let mut n = s;
-    n.value = 0;
-    match part {
-        1 => {
-            n.part = 2;
-        }
-        2 => {
-            n.part = 3;
-            n.at = s.value as usize;
-        }
-        _ => {
-            n.at = s.at % 65536 + 1;
+impl Step {
+    // A character of a name is printed; an equals sign is not.
+    pub(crate) fn name(self, output: &impl Print, c: u8) -> io::Result<()> {
+        match self {
+            Step::Name if c != b'=' => inputs::text(output, &[c]),
+            _ => Ok(()),
         }
     }
-    n
+
+    // What a character ends: a line, what is named behind a colon, or a number.
+    pub(crate) fn done(self, c: u8) -> Option<Deed> {
+        match (self, c) {
+            (_, b'\n') => Some(Deed::Event),
+            (_, b':') | (Step::Number { op: b':', .. }, b' ' | b',') => Some(Deed::Afresh),
+            (Step::Number { op, at, value }, b' ' | b',') => Some(Deed::Write { op, at, value }),
+            _ => None,
+        }
+    }
+
+    // One character more. A space ends a word, an index or a number, and the next number is for the next index.
+    pub(crate) fn read(self, c: u8) -> Step {
+        match (self, c) {
+            (Step::Name, b':' | b'=') => Step::Word(None),
+            (Step::Name, _) | (_, b'\n') => Step::Name,
+            (_, b',') => Step::Word(None),
+            (Step::Word(Some(op)), b' ') => Step::Index { op, at: 0 },
+            (Step::Index { op, at }, b' ') => Step::Number {
+                op,
+                at: at as usize,
+                value: 0,
+            },
+            (Step::Number { op, at, .. }, b' ') => Step::Number {
+                op,
+                at: at % 65536 + 1,
+                value: 0,
+            },
+            _ => self.lettered(c),
+        }
+    }
+
+    // A digit of an index or of a number, or a letter, of which a word's first is kept.
+    fn lettered(self, c: u8) -> Step {
+        match self {
+            Step::Name => self,
+            Step::Word(op) if c <= b'9' => Step::Word(op),
+            Step::Word(op) => Step::Word(op.or(Some(c))),
+            Step::Index { op, at } => Step::Index {
+                op,
+                at: with_digit(at, c),
+            },
+            Step::Number { op, at, value } => Step::Number {
+                op,
+                at,
+                value: with_digit(value, c),
+            },
+        }
+    }
 }
 
-// A digit of a number modulo 2^32, or a letter, of which a word's first is kept.
-fn letter(s: Step, c: u8) -> Step {
-    let mut n = s;
-    if c < 58 {
-        n.value = ((s.value as u64 * 10 + c as u64 % 48) % 4294967296) as u32;
+// A number with a digit behind it, modulo 2^32. A letter changes nothing.
+fn with_digit(n: u32, c: u8) -> u32 {
+    if c > b'9' {
         return n;
     }
-    if s.op == 0 {
-        n.op = c;
-    }
-    n
-}
-
-// A step's beginning.
-fn word() -> Step {
-    let mut n = line();
-    n.part = 1;
-    n
-}
-
-// One character more.
-pub(crate) fn read(s: Step, c: u8) -> Step {
-    if s.part == 0 {
-        match c {
-            b':' | b'=' => {
-                return word();
-            }
-            _ => {
-                return s;
-            }
-        }
-    }
-    match c {
-        10 => line(),
-        b',' => word(),
-        b' ' => {
-            if s.op == 0 {
-                return s;
-            }
-            next(s)
-        }
-        _ => letter(s, c),
-    }
+    n.wrapping_mul(10).wrapping_add(u32::from(c % 48))
 }

@@ -5,67 +5,74 @@
 
 #![tactic(auto)]
 
+ghost use Rattle.std.specs.Prelude.{◌≤◌};
+
 use std::io;
 use std::process::ExitCode;
 
+// A vector as far as it was read: its bytes at the front of a buffer, how many there are, and the character before the next one.
+#[derive(Drop)]
+struct Vector {
+    bytes: [u8; 65536],
+    used: usize,
+    before: u8,
+    ghost within: { used ≤ 65536 },
+}
+
+impl Vector {
+    // One character more. Behind a line's last one the next vector begins.
+    fn read(&mut self, c: u8) {
+        match c {
+            b'\n' => self.used = 0,
+            b'"' | b'\\' => (),
+            _ => self.push(meant(self.before, c)),
+        }
+        self.before = c;
+    }
+
+    // One byte more, where there is room.
+    fn push(&mut self, byte: u8) {
+        if let Some(place) = self.bytes.get_mut(self.used) {
+            *place = byte;
+            self.used += 1;
+        }
+    }
+
+    // F, behind a space.
+    fn sum(&self, output: &impl Print) -> io::Result<()> {
+        let sum = hash::fnv(&self.bytes[..self.used]);
+        inputs::heard(print!(output; " {sum:08x}"))
+    }
+}
+
 // The byte that a character stands for, by the character before it.
 fn meant(before: u8, c: u8) -> u8 {
-    if before != b'\\' {
-        return c;
-    }
-    if c == b'0' {
-        return 0;
-    }
-    10
-}
-
-// F, behind a space.
-fn sum(output: &impl Print, bytes: &[u8]) -> io::Result<()> {
-    let sum = hash::fnv(bytes);
-    inputs::heard(print!(output; " {sum:08x}"))
-}
-
-// One character, with a vector's first n bytes at the front of the text; how many there are then. At a line's end F is printed.
-fn turn(output: &impl Print, text: &mut [u8], n: usize, before: u8, c: u8) -> io::Result<usize> {
-    if text.len() <= n {
-        return Ok(n);
-    }
-    match c {
-        10 => {
-            sum(output, &text[..n])?;
-            Ok(0)
-        }
-        b'"' | b'\\' => Ok(n),
-        _ => {
-            text[n] = meant(before, c);
-            Ok(n + 1)
-        }
+    match (before, c) {
+        (b'\\', b'0') => 0,
+        (b'\\', _) => b'\n',
+        _ => c,
     }
 }
 
-// Every character. A vector's bytes are never more than the characters read, so nothing is overwritten before it is read.
-fn run(output: &impl Print, text: &mut [u8], end: usize) -> io::Result<()> {
-    let mut before = 0u8;
-    let mut n = 0;
-    let mut i = 0;
-    while i < end {
-        if text.len() <= i {
-            return Ok(());
+// Every character is printed, and before a line's end F.
+fn run(output: &impl Print, text: &[u8]) -> io::Result<()> {
+    let mut vector = Vector {
+        bytes: [0; 65536],
+        used: 0,
+        before: 0,
+    };
+    for &c in text {
+        if c == b'\n' {
+            vector.sum(output)?;
         }
-        let one = [text[i]];
-        n = turn(output, text, n, before, one[0])?;
-        inputs::heard(output.write_all(&one))?;
-        before = one[0];
-        i += 1;
+        inputs::text(output, &[c])?;
+        vector.read(c);
     }
     Ok(())
 }
 
 fn main(rt: HostRuntime) -> ExitCode {
-    let mut text = [0u8; 65536];
-    let end = inputs::read_full(&mut rt.stdin(), &mut text);
-    match run(&rt, &mut text, end) {
-        Ok(()) => ExitCode::SUCCESS,
-        Err(_) => ExitCode::from(141),
-    }
+    let mut text = [0; 65536];
+    let n = inputs::read_full(&mut rt.stdin(), &mut text);
+    inputs::status(run(&rt, &text[..n]))
 }

@@ -1,9 +1,0 @@
--- `test_cases::given::many` meets its contract.
-use Rattle.std.proofs.Common.{◌-◌, ◌≤◌}
-use Rattle.test_cases.proofs.given.many.Given as goal
-
-abbrev pub invariant-loop-i : goal.invariant-loop-i
-invariant-loop-i l = l.i ≤ 64
-
-abbrev pub decreases-loop-i : goal.decreases-loop-i
-decreases-loop-i l = 64 - l.i

@@ -1,9 +1,0 @@
--- `test_cases::rings::read_at` meets its contract.
-use Rattle.std.proofs.Common.{◌-◌, ◌≤◌}
-use Rattle.test_cases.proofs.rings.read_at.Given as goal
-
-abbrev pub invariant-loop-i : goal.invariant-loop-i
-invariant-loop-i l = l.i ≤ 64
-
-abbrev pub decreases-loop-i : goal.decreases-loop-i
-decreases-loop-i l = 64 - l.i
