@@ -15,7 +15,7 @@ import sys
 ROOT = os.path.dirname(os.path.dirname(os.path.abspath(__file__)))
 PATH = r"(?:crates/)?([a-z_]+/(?:specs|proofs|src|must-fail)/[\w./]+\.(?:antt|rt|edit))"
 PAIR = re.compile(r"((?:`[^`\n]+`(?:,| and|;)?\s+)+)(?:in\s+|\()" + PATH)
-CODE = re.compile(r"\s*(?:pub(?:\(crate\))? )?(?:fn|struct|enum|const) (\w+)|\s*pub (\w+):")
+CODE = re.compile(r"\s*(?:pub(?:\(crate\))? )?(?:fn|struct|enum|trait|const) (\w+)|\s*pub (\w+):")
 LOGIC = re.compile(r"\s*(?:(?:abbrev|unfoldable) )?(?:pub )?(?:record |data )?([A-Za-z][\w′'-]*)(?:\s*:|\s*\(|\s*$)")
 
 WORDS = set("""jet setsid stdbuf explain summary sh bin rattle-kit-13f rt lib mod full twin std io libc os Copy Err Wait abbrev const
@@ -74,7 +74,8 @@ def unknown(page, names):
 def main():
     pages = ["README.md", "tests/model/README.md"]
     pages += sorted(os.path.relpath(p, ROOT) for p in glob.glob(os.path.join(ROOT, "docs", "*.md")))
-    pages.remove(os.path.join("docs", "PORT.md"))       # it names what is gone, as the landing notes do
+    for page in ("PORT.md", "DESIGN-PASS.md"):          # they name what is gone, as the landing notes do
+        pages.remove(os.path.join("docs", page))
     names = everywhere()
     faults = [fault for page in pages for fault in [*missing(page), *unknown(page, names)]]
     for fault in faults:
