@@ -69,14 +69,7 @@ fn fill(r: Roster, rows: &mut [u32], flags: &mut [u8])
     ensures { record { servers = rows.new; flags = flags.new }
         ≡ filled r.settings.rows (working_set r) (horizon r) (record { servers = rows.old; flags = flags.old }) }
 {
-    let n = roster::in_use(r.held);
-    rows::fill(
-        rows,
-        flags,
-        r.settings.rows,
-        &r.servers[..n],
-        &r.states[..n],
-    );
+    rows::fill(rows, flags, r.settings.rows, r.movers());
 }
 
 // Add working: refused unless the server is in the horizon.

@@ -14,12 +14,12 @@ ghost use Rattle.rules.specs.Rules.{state_with, world_with, StartPromise, sizes_
 ghost use Rattle.engine.specs.Looking.{look_of, lookup_facts, admitted_so_far, asked_by, react_of};
 ghost use Rattle.answers.specs.Reacting.{reacted, settled};
 
-use answers::{Done, Reaction};
+use answers::{Done, Facts, Reaction};
 use event::{Event, Fault};
 use packets::Asked;
 use ring::Entry;
 use roster::Roster;
-use rules::{Outcome, Refusal, Reply};
+use rules::{Outcome, Refusal};
 use table::Found;
 
 // What a look at an event record finds before the ring is read.
@@ -141,11 +141,7 @@ pub fn begin(table: &mut [u8], rows: usize, flags: usize, ring: usize, roster: R
     }
     table::start(table);
     Outcome {
-        reply: Reply::Accepted {
-            server: 0,
-            mark: 0,
-            reads: 0,
-        },
+        reply: Facts::default().into(),
         roster: roster::empty(),
     }
 }
@@ -154,6 +150,5 @@ pub fn begin(table: &mut [u8], rows: usize, flags: usize, ring: usize, roster: R
 pub fn plan_of(r: Roster) -> [Entry; ring::RING_PLACES]
     ensures { result ≡ planned (held_servers r) (working_set r) }
 {
-    let n = roster::in_use(r.held);
-    ringplan::plan(&r.servers[..n], &r.states[..n])
+    ringplan::plan(r.movers())
 }

@@ -1,5 +1,5 @@
 // HRW, highest random weight: the choice over the working servers at a digest, and whether a horizon
-// server outranks it. Servers and their states are lent side by side, as the roster holds them.
+// server outranks it. Movers are lent as the roster holds them.
 
 #![tactic(auto)]
 
@@ -10,14 +10,15 @@ ghost use Rattle.ranking.specs.Ranking.{picked};
 ghost use Rattle.ranking.specs.Best.{best_of, beaten};
 ghost use Rattle.hash.specs.Hash.{weight};
 
+use lists::Movers;
 use ranking::{Best, ByWeight, Pick};
 
 // The choice over the working servers, with its weight: each weight is computed once. None where no server works.
-pub fn choose(servers: &[u32], states: &[u8], digest: u32) -> Option<Best>
-    ensures { result ≡ best_of (hrw digest) (λ s. weight s digest) (in_state working servers.now states.now) }
+pub fn choose(movers: Movers, digest: u32) -> Option<Best>
+    ensures { result ≡ best_of (hrw digest) (λ s. weight s digest) (in_state working movers.entry.servers.now movers.entry.states.now) }
 {
     let mut best = None;
-    for (&server, &state) in servers.iter().zip(states) {
+    for (&server, &state) in movers.servers.iter().zip(movers.states) {
         if state == sets::WORKING {
             let measure = hash::weight(server, digest);
             best = Some(ranking::keep::<ByWeight>(best, Best { server, measure }));
@@ -27,10 +28,10 @@ pub fn choose(servers: &[u32], states: &[u8], digest: u32) -> Option<Best>
 }
 
 // Whether some horizon server outranks the best of the working ones.
-pub fn outranked(servers: &[u32], states: &[u8], digest: u32, best: Best) -> bool
-    ensures { result ≡ beaten heavier (λ s. weight s digest) best (in_state standby servers.now states.now) }
+pub fn outranked(movers: Movers, digest: u32, best: Best) -> bool
+    ensures { result ≡ beaten heavier (λ s. weight s digest) best (in_state standby movers.entry.servers.now movers.entry.states.now) }
 {
-    servers.iter().zip(states).any(|(&server, &state)| {
+    movers.servers.iter().zip(movers.states).any(|(&server, &state)| {
         state == sets::STANDBY
             && ranking::heavier(
                 hash::weight(server, digest),
@@ -43,14 +44,14 @@ pub fn outranked(servers: &[u32], states: &[u8], digest: u32, best: Best) -> boo
 
 // What HRW gives a packet without a record: the choice over the working servers, and whether some
 // horizon server outranks it.
-pub fn pick(servers: &[u32], states: &[u8], digest: u32) -> Pick
-    ensures { result ≡ picked (hrw digest) (in_state working servers.now states.now)
-        (in_state standby servers.now states.now) }
+pub fn pick(movers: Movers, digest: u32) -> Pick
+    ensures { result ≡ picked (hrw digest) (in_state working movers.entry.servers.now movers.entry.states.now)
+        (in_state standby movers.entry.servers.now movers.entry.states.now) }
 {
-    match choose(servers, states, digest) {
+    match choose(movers, digest) {
         Some(best) => Pick {
             server: best.server,
-            flag: outranked(servers, states, digest, best),
+            flag: outranked(movers, digest, best),
         },
         None => Pick {
             server: 0,

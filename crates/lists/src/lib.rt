@@ -7,6 +7,13 @@ ghost use Rattle.lists.specs.Lists.{rising as rising-of, all_stated, found_in, b
 
 use sets::{STANDBY, WORKING};
 
+// Servers, each with its state at the same place of the other list, as a roster holds them.
+#[derive(Clone, Copy)]
+pub struct Movers<'a> {
+    pub servers: &'a [u32],
+    pub states: &'a [u8],
+}
+
 // Whether servers rise: each above the one before it, the first above 0.
 pub fn rising(s: &[u32]) -> bool
     ensures { result ≡ rising-of 0 s.now }

@@ -1,4 +1,4 @@
-// Packets: the key's record, or else what the method in force gives. The roster's two lists are lent where they stand.
+// Packets: the key's record, or else what the method in force gives. The roster's movers are lent where they stand.
 
 #![tactic(auto)]
 
@@ -16,6 +16,7 @@ ghost use Rattle.answers.specs.Reacting.{replied, served};
 ghost use Rattle.packets.specs.Lent.{Lent, led_of, packet_of};
 
 use answers::Facts;
+use lists::Movers;
 use ranking::Pick;
 use ring::Entry;
 use roster::Roster;
@@ -43,50 +44,39 @@ pub fn packet(
     ensures { replied result table.new rows.now flags.now r.now
         ≡ packet_of asked.key asked.found asked.f asked.spot (state_with table.old rows.now flags.now r.now) }
 {
-    let held = r.held;
-    if !roster::parts::sound(&r.servers, &r.states, held, r.settings) {
+    if !roster::parts::sound(r.places(), r.held, r.settings) {
         return Err(Refusal::UnsoundRoster);
     }
-    lead(
-        asked,
-        table,
-        rows,
-        flags,
-        &r.servers[..held],
-        &r.states[..held],
-        r.settings,
-    )
+    lead(asked, table, rows, flags, r.movers(), r.settings)
 }
 
-// Stays (6): the two lists are the roster's own arrays (crate `roster` says why), of which the places in use are lent.
-// A packet that meets a sound roster, of which it is lent the servers held and their states. Where the key has no record,
+// A packet that meets a sound roster, of which it is lent the movers. Where the key has no record,
 // the server that HRW chooses is one of those that work, and 0 where none does; one that was read is refused unless it works.
 fn lead(
     asked: Asked,
     table: &mut [u8],
     rows: &[u32],
     flags: &[u8],
-    servers: &[u32],
-    states: &[u8],
+    movers: Movers,
     settings: Settings,
 ) -> Result<Facts, Refusal>
-    ensures { (r : Roster) → Lent r servers.now states.now → r.settings ≡ settings
+    ensures { (r : Roster) → Lent r movers.entry.servers.now movers.entry.states.now → r.settings ≡ settings
         → replied result table.new rows.now flags.now r
         ≡ led_of asked.key asked.found asked.f asked.spot (state_with table.old rows.now flags.now r) }
 {
     match asked.found {
-        Found::At(place) => known(place, table, servers, states),
+        Found::At(place) => known(place, table, movers),
         Found::Nothing(used) => {
             if settings.method == settings::HRW {
-                let best = hrw::pick(servers, states, hash::digest(asked.f));
+                let best = hrw::pick(movers, hash::digest(asked.f));
                 if best.server == 0 {
                     return Err(Refusal::NoneWorking);
                 }
                 return Ok(settle(asked.key, used, best, table));
             }
             let pick = read_pick(asked.f, asked.spot, rows, flags, settings);
-            if roster::parts::state_in(servers, states, pick.server) != sets::WORKING {
-                return Err(idle(servers, states));
+            if roster::parts::state_in(movers, pick.server) != sets::WORKING {
+                return Err(idle(movers));
             }
             Ok(settle(asked.key, used, pick, table))
         }
@@ -108,14 +98,14 @@ fn read_pick(f: u32, spot: Entry, rows: &[u32], flags: &[u8], settings: Settings
 }
 
 // A key with a record: its server, or a refusal.
-fn known(place: usize, table: &[u8], servers: &[u32], states: &[u8]) -> Result<Facts, Refusal>
-    ensures { (key : List ℕ) (pick : Pick) (rows flags : List ℕ) (r : Roster) → Lent r servers.now states.now
+fn known(place: usize, table: &[u8], movers: Movers) -> Result<Facts, Refusal>
+    ensures { (key : List ℕ) (pick : Pick) (rows flags : List ℕ) (r : Roster) → Lent r movers.entry.servers.now movers.entry.states.now
         → replied result table.now rows flags r
         ≡ judged (asks_key 1 key) (finding_of (Found.At place)) pick (state_with table.now rows flags r) }
 {
     let server = table::server_at(table, place);
-    if roster::parts::state_in(servers, states, server) != sets::WORKING {
-        return Err(idle(servers, states));
+    if roster::parts::state_in(movers, server) != sets::WORKING {
+        return Err(idle(movers));
     }
     Ok(Facts {
         server,
@@ -154,10 +144,10 @@ fn settle(key: [u8; table::KEY_BYTES], used: usize, pick: Pick, table: &mut [u8]
 }
 
 // Why a packet whose server doesn't work is refused: no server works at all, or that one doesn't.
-fn idle(servers: &[u32], states: &[u8]) -> Refusal
-    ensures { result ≡ cond (some (in_state working servers.now states.now)) LedToIdle NoneWorking }
+fn idle(movers: Movers) -> Refusal
+    ensures { result ≡ cond (some (in_state working movers.entry.servers.now movers.entry.states.now)) LedToIdle NoneWorking }
 {
-    if some_in_work(servers, states) {
+    if some_in_work(movers) {
         return Refusal::LedToIdle;
     }
     Refusal::NoneWorking
@@ -165,9 +155,9 @@ fn idle(servers: &[u32], states: &[u8]) -> Refusal
 
 // Whether some server works. Only places that both lists have count.
 #[tactic(auto, using(answers::proofs::Rosters::some_stated))]
-fn some_in_work(servers: &[u32], states: &[u8]) -> bool
-    ensures { result ≡ some (in_state working servers.now states.now) }
+fn some_in_work(movers: Movers) -> bool
+    ensures { result ≡ some (in_state working movers.entry.servers.now movers.entry.states.now) }
 {
-    let both = servers.len().min(states.len());
-    states[..both].contains(&sets::WORKING)
+    let both = movers.servers.len().min(movers.states.len());
+    movers.states[..both].contains(&sets::WORKING)
 }

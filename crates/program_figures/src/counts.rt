@@ -1,4 +1,5 @@
 // Every key led to a server by one of the methods: how many keys each server gets, and how many are to be recorded.
+use lists::Movers;
 use ranking::Pick;
 use ring::Entry;
 use std::fmt;
@@ -63,36 +64,36 @@ fn said(entry: Entry) -> Pick {
 }
 
 // The keys by rows.
-fn by_rows(points: &[u32], servers: &[u32], states: &[u8], rows: u16) -> Counts {
+fn by_rows(points: &[u32], movers: Movers, rows: u16) -> Counts {
     let mut chosen = [0u32; rows::ROW_PLACES];
     let mut flags = [0u8; rows::ROW_PLACES];
-    rows::fill(&mut chosen, &mut flags, rows, servers, states);
+    rows::fill(&mut chosen, &mut flags, rows, movers);
     counted(
         points,
-        servers,
+        movers.servers,
         |point| rows::read(&chosen, &flags, rows, point),
     )
 }
 
 // The keys by the ring.
-fn by_ring(points: &[u32], servers: &[u32], states: &[u8]) -> Counts {
-    let plan = ringplan::plan(servers, states);
+fn by_ring(points: &[u32], movers: Movers) -> Counts {
+    let plan = ringplan::plan(movers);
     counted(
         points,
-        servers,
-        |point| said(ring::read(&plan, servers.len(), point)),
+        movers.servers,
+        |point| said(ring::read(&plan, movers.servers.len(), point)),
     )
 }
 
 // The keys by a method.
-pub(crate) fn by(method: Method, points: &[u32], servers: &[u32], states: &[u8]) -> Counts {
+pub(crate) fn by(method: Method, points: &[u32], movers: Movers) -> Counts {
     match method {
         Method::Hrw => counted(
             points,
-            servers,
-            |point| hrw::pick(servers, states, hash::digest(point)),
+            movers.servers,
+            |point| hrw::pick(movers, hash::digest(point)),
         ),
-        Method::Ring => by_ring(points, servers, states),
-        Method::Rows(rows) => by_rows(points, servers, states, rows),
+        Method::Ring => by_ring(points, movers),
+        Method::Rows(rows) => by_rows(points, movers, rows),
     }
 }

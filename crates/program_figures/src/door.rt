@@ -2,6 +2,7 @@
 // turn, and movers join and leave between such rounds.
 use crate::keys::Stream;
 use crate::numbers;
+use lists::Movers;
 use sets::{STANDBY, WORKING};
 use std::fmt;
 use table::{Found, KEY_BYTES, RECORD_BYTES};
@@ -51,6 +52,14 @@ impl<'a> Door<'a> {
         table::used(self.table)
     }
 
+    // The movers at the door.
+    fn movers(&self) -> Movers<'_> {
+        Movers {
+            servers: &self.servers,
+            states: &self.states,
+        }
+    }
+
     // A packet of a key.
     fn packet(&mut self, key: [u8; KEY_BYTES]) -> Led {
         match table::find(self.table, key) {
@@ -64,7 +73,7 @@ impl<'a> Door<'a> {
 
     // A packet of a key without a record, where so many records are used.
     fn chosen(&mut self, key: [u8; KEY_BYTES], used: usize) -> Led {
-        let pick = hrw::pick(&self.servers, &self.states, hash::digest(hash::fnv(&key)));
+        let pick = hrw::pick(self.movers(), hash::digest(hash::fnv(&key)));
         let full = used >= self.table.len() / RECORD_BYTES;
         if pick.flag {
             table::write_after(self.table, used, key, pick.server);

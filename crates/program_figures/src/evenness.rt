@@ -2,6 +2,7 @@
 use crate::counts;
 use crate::counts::Method;
 use crate::numbers::Numbers;
+use lists::Movers;
 use std::io;
 
 // A method's line: spread or consecutive numbers, how many servers, method and row count; the keys of each server in rising order.
@@ -15,7 +16,11 @@ fn line(
     let states = [sets::WORKING; sets::MOST_SERVERS];
     let held = servers.len();
     inputs::heard(print!(output; "keys {numbers} {held} {method}"))?;
-    let counts = counts::by(method, points, servers, &states);
+    let movers = Movers {
+        servers,
+        states: &states,
+    };
+    let counts = counts::by(method, points, movers);
     for &keys in counts.at.iter().take(held) {
         inputs::number(output, u64::from(keys))?;
     }

@@ -2,6 +2,7 @@
 use crate::counts::Method;
 use crate::numbers::Numbers;
 use crate::{counts, numbers};
+use lists::Movers;
 use std::io;
 
 // A line: working, horizon, method and row count; the recorded keys of each draw of spread numbers.
@@ -20,7 +21,11 @@ fn line(
     let mut numbers = Numbers::spread();
     for _ in 0..draws {
         numbers.draw(servers);
-        let counts = counts::by(method, points, servers, &states);
+        let movers = Movers {
+            servers,
+            states: &states,
+        };
+        let counts = counts::by(method, points, movers);
         inputs::number(output, u64::from(counts.recorded))?;
     }
     inputs::text(output, b"\n")

@@ -14,7 +14,7 @@ use Rattle.ring.specs.Ring.{blank, overlaid}
 use Rattle.ringplan.specs.Plan.{arranged, entry_of, entries, drawn, planned}
 use Rattle.ringplan.specs.Keys.{Fit, key_of}
 use Rattle.ringplan.proofs.Order.{length-arranged}
-use Rattle.ringplan.proofs.Keys.{fit_all, fit_at, fit_in_state, fit_arranged}
+use Rattle.ringplan.proofs.Keys.{fit_at, fit_in_state, fit_arranged}
 use Rattle.ringplan.proofs.Reading.{length-entries}
 
 -- the first i entries are laid out, and the places behind them are blank
@@ -42,16 +42,15 @@ as_many held order o = ap length o ∙ length-map (arranged held) key_of ∙ len
 
 -- the entry is worked out from a key of the order and from the keys of the working servers
 pub laid_more : (held states order keys : List ℕ) (plan : List Entry) (i : ℕ) (e : Entry) → length held ≤ 64 → i < length order
-    → ((j : ℕ) → get_or held j 0 < 2 ^ 32) → order ≡ map key_of (arranged held) → keys ≡ map key_of (in_state 1 held states)
+    → Fit held → order ≡ map key_of (arranged held) → keys ≡ map key_of (in_state 1 held states)
     → ((w : List ℕ) (s : ℕ) → Fit w → s < 2 ^ 32 → keys ≡ map key_of w → get_or order i 0 ≡ key_of s → e ≡ entry_of w s)
     → LaidOut held (in_state 1 held states) plan i → LaidOut held (in_state 1 held states) (set plan i e) (i + 1)
-laid_more held states order keys plan i e small here fit o k says a =
+laid_more held states order keys plan i e small here fits o k says a =
     let working = in_state 1 held states in
     let x = get_or (arranged held) i 0 in
     let few : length order ≡ length held = as_many held order o in
     let whole : length (arranged held) ≡ length held = length-arranged held in
     let within : i < length (arranged held) = omega arith in
-    let fits : Fit held = fit_all held fit in
     let is_key : get_or order i 0 ≡ key_of x = ap (λ (l : List ℕ). get_or l i 0) o ∙ get_or-map key_of (arranged held) i 0 0 within in
     let q : e ≡ entry_of working x =
     says working x (fit_in_state 1 held states fits) (fit_at (arranged held) i within (fit_arranged held fits)) k is_key in

@@ -10,6 +10,7 @@ ghost use Rattle.ranking.specs.Methods.{ring as ring-at};
 ghost use Rattle.ringplan.specs.Plan.{arranged, entry_of, planned};
 ghost use Rattle.ringplan.specs.Keys.{Fit, key_of, key_position, key_server};
 
+use lists::Movers;
 use ranking::{Best, ByDistance};
 use ring::Entry;
 
@@ -39,10 +40,11 @@ fn server_of(key: u64) -> u32
     u32::MAX - (key % NUMBERS) as u32
 }
 
-// The keys of servers, 64 at most, in the ring's order, written to the front of a lent list.
+// The keys of servers, 64 at most, in the ring's order, written to the front of a lent list. Each server fits the lower half of a key.
 fn arrange<'a>(servers: &[u32], order: &'a mut [u64; sets::MOST_SERVERS]) -> &'a [u64]
     requires { length servers.now ≤ most_servers }
-    ensures { result.now ≡ map key_of (arranged servers.now) }
+    ensures keys { result.now ≡ map key_of (arranged servers.now) }
+    ensures fit { Fit servers.now }
 {
     for (i, &server) in servers.iter().enumerate() {
         order[i] = key(server);
@@ -53,12 +55,12 @@ fn arrange<'a>(servers: &[u32], order: &'a mut [u64; sets::MOST_SERVERS]) -> &'a
 }
 
 // The keys of the working ones of at most 64 servers, written to the front of a lent list.
-fn working<'a>(servers: &[u32], states: &[u8], keys: &'a mut [u64; sets::MOST_SERVERS]) -> &'a [u64]
-    requires { length servers.now ≤ most_servers }
-    ensures { result.now ≡ map key_of (in_state at-work servers.now states.now) }
+fn working<'a>(movers: Movers, keys: &'a mut [u64; sets::MOST_SERVERS]) -> &'a [u64]
+    requires { length movers.servers.now ≤ most_servers }
+    ensures { result.now ≡ map key_of (in_state at-work movers.entry.servers.now movers.entry.states.now) }
 {
     let mut held = 0;
-    for (&server, &state) in servers.iter().zip(states) {
+    for (&server, &state) in movers.servers.iter().zip(movers.states) {
         if state == sets::WORKING {
             keys[held] = key(server);
             held += 1;
@@ -108,14 +110,14 @@ fn entry_for(working: &[u64], key: u64) -> Entry
 }
 
 // The plan of a ring for servers and their states, 1 working and 2 in the horizon.
-pub fn plan(servers: &[u32], states: &[u8]) -> [Entry; ring::RING_PLACES]
-    ensures { result ≡ planned servers.now (in_state at-work servers.now states.now) }
+pub fn plan(movers: Movers) -> [Entry; ring::RING_PLACES]
+    ensures { result ≡ planned movers.entry.servers.now (in_state at-work movers.entry.servers.now movers.entry.states.now) }
 {
     let mut plan = [Entry::default(); ring::RING_PLACES];
-    if servers.len() <= sets::MOST_SERVERS {
+    if movers.servers.len() <= sets::MOST_SERVERS {
         let (mut keys, mut order) = ([0; sets::MOST_SERVERS], [0; sets::MOST_SERVERS]);
-        let working = working(servers, states, &mut keys);
-        let order = arrange(servers, &mut order);
+        let working = working(movers, &mut keys);
+        let order = arrange(movers.servers, &mut order);
         for (i, &key) in order.iter().enumerate() {
             plan[i] = entry_for(working, key);
         }

@@ -68,9 +68,6 @@ module _ (h n : ℕ) (l : List ℕ) (w : length l ≡ 64) (e : n ≡ min h 64) w
 
 -- a server among the servers ss, with their states xs
 module _ (s h n : ℕ) (ss xs : List ℕ) (ws : length ss ≡ 64) (wx : length xs ≡ 64) (e : n ≡ min h 64) where
-  pub same_state : state_in s (take n ss) (take n xs) ≡ state_in s (take h ss) (take h xs)
-  same_state = rw (take-used h n ss ws e, take-used h n xs wx e)
-
   -- with a place p
   module _ (p : ℕ) (at : Some p ≡ found_in s (take n ss)) where
     place_is : p ≡ place_in s (take h ss)

@@ -2,6 +2,7 @@
 use Prim.Native.Nat.{ℕ}
 use mathlib.Core.Bool.{Bool}
 use mathlib.Core.Path.{◌≡◌}
+use Rattle.lists.specs.declared.Movers.{Movers}
 use Rattle.roster.specs.declared.Roster.{Roster}
 use Rattle.roster.proofs.empty.Reads.{Learnt as empty-promise}
 use Rattle.roster.proofs.sound.Reads.{Learnt as sound-promise}
@@ -10,6 +11,8 @@ use Rattle.roster.proofs.add_working.Reads.{Learnt as add-working-promise}
 use Rattle.roster.proofs.remove_working.Reads.{Learnt as remove-working-promise}
 use Rattle.roster.proofs.add_horizon.Reads.{Learnt as add-horizon-promise}
 use Rattle.roster.proofs.remove_horizon.Reads.{Learnt as remove-horizon-promise}
+use Rattle.roster.proofs.Roster.places.Reads.{Learnt as places-promise}
+use Rattle.roster.proofs.Roster.movers.Reads.{Learnt as movers-promise}
 use Rattle.roster.proofs.in_use.Reads.{Learnt as in-use-promise}
 use Rattle.roster.proofs.parts.sound.Reads.{Learnt as parts-sound-promise}
 use Rattle.roster.proofs.parts.state_in.Reads.{Learnt as state-in-promise}
@@ -44,3 +47,12 @@ parts_sound_unique κs a x y e e' p q = cc
 
 pub state_in_unique : (κs : _) (a : _) (x y : ℕ) (e e' : _) → state-in-promise κs a x e → state-in-promise κs a y e' → x ≡ y
 state_in_unique κs a x y e e' p q = cc
+
+-- of movers lent, the two lists
+pub places_unique : (κs : _) (a : _) (x y : Movers) (e e' : _) → places-promise κs a x e → places-promise κs a y e'
+    → (x.servers.now ≡ y.servers.now) × (x.states.now ≡ y.states.now)
+places_unique κs a x y e e' p q = (cc, cc)
+
+pub movers_unique : (κs : _) (a : _) (x y : Movers) (e e' : _) → movers-promise κs a x e → movers-promise κs a y e'
+    → (x.servers.now ≡ y.servers.now) × (x.states.now ≡ y.states.now)
+movers_unique κs a x y e e' p q = (cc, cc)

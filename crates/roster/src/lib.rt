@@ -3,8 +3,9 @@
 #![tactic(auto)]
 
 ghost use Rattle.std.specs.Prelude.{◌≡◌, min};
-ghost use Rattle.roster.specs.Roster.{sound as sound_of, state_of, added_working, removed_working, added_horizon, removed_horizon, empty_roster, with_state, most_servers};
+ghost use Rattle.roster.specs.Roster.{sound as sound_of, state_of, added_working, removed_working, added_horizon, removed_horizon, empty_roster, with_state, most_servers, held_servers, held_states};
 
+use lists::Movers;
 use sets::{MOST_SERVERS, STANDBY, WORKING};
 use settings::Settings;
 
@@ -19,6 +20,29 @@ pub struct Roster {
     pub states: [u8; MOST_SERVERS],
     pub held: usize,
     pub settings: Settings,
+}
+
+impl Roster {
+    // All 64 places, in use or not.
+    pub fn places(&self) -> Movers<'_>
+        ensures { (result.servers.now ≡ self.now.servers) × (result.states.now ≡ self.now.states) }
+    {
+        Movers {
+            servers: &self.servers,
+            states: &self.states,
+        }
+    }
+
+    // The servers held, each with its state: the places in use.
+    pub fn movers(&self) -> Movers<'_>
+        ensures { (result.servers.now ≡ held_servers self.now) × (result.states.now ≡ held_states self.now) }
+    {
+        let n = in_use(self.held);
+        Movers {
+            servers: &self.servers[..n],
+            states: &self.states[..n],
+        }
+    }
 }
 
 // The roster of a fresh start.
@@ -37,7 +61,7 @@ pub fn empty() -> Roster
 pub fn sound(r: Roster) -> bool
     ensures { result ≡ sound_of r }
 {
-    parts::sound(&r.servers, &r.states, r.held, r.settings)
+    parts::sound(r.places(), r.held, r.settings)
 }
 
 // The state of a server: 1 working, 2 in the horizon, 0 unknown.
@@ -45,8 +69,7 @@ pub fn sound(r: Roster) -> bool
 pub fn state_of(r: Roster, server: u32) -> u8
     ensures { result ≡ state_of server r }
 {
-    let n = in_use(r.held);
-    parts::state_in(&r.servers[..n], &r.states[..n], server)
+    parts::state_in(r.movers(), server)
 }
 
 // A server of the horizon brought into work.

@@ -2,24 +2,27 @@
 ghost use Rattle.std.specs.Prelude.{◌≡◌, false, cond, leb, length};
 ghost use Rattle.roster.specs.Roster.{sound as sound_of, state_in};
 
+use lists::Movers;
 use sets::MOST_SERVERS;
 use settings::Settings;
 
-// Whether the roster of these parts has its stated form. Lists with fewer places than are held are none of a roster.
+// Whether the roster of these parts has its stated form. Lists with fewer places than are held are none of a roster. The hint is
+// for packets, each of which asks this.
+#[inline]
 #[tactic(auto, unfolding(crate::specs::Roster::sound))]
-pub fn sound(servers: &[u32], states: &[u8], held: usize, settings: Settings) -> bool
-    ensures { result ≡ cond (leb held (length servers.now))
-        (cond (leb held (length states.now))
-        (sound_of (record { servers = servers.now; states = states.now; held = held; settings = settings })) false) false }
+pub fn sound(movers: Movers, held: usize, settings: Settings) -> bool
+    ensures { result ≡ cond (leb held (length movers.entry.servers.now))
+        (cond (leb held (length movers.entry.states.now))
+        (sound_of (record { servers = movers.entry.servers.now; states = movers.entry.states.now; held = held; settings = settings })) false) false }
 {
-    if held > MOST_SERVERS || held > servers.len() || held > states.len() {
+    if held > MOST_SERVERS || held > movers.servers.len() || held > movers.states.len() {
         return false;
     }
     if !settings::valid(settings) {
         return false;
     }
-    let (servers, unused_servers) = servers.split_at(held);
-    let (states, unused_states) = states.split_at(held);
+    let (servers, unused_servers) = movers.servers.split_at(held);
+    let (states, unused_states) = movers.states.split_at(held);
     lists::rising(servers)
         && lists::stated(states)
         && spans::all_are(unused_servers, 0)
@@ -28,11 +31,11 @@ pub fn sound(servers: &[u32], states: &[u8], held: usize, settings: Settings) ->
 
 // The state of a server among those held: 1 working, 2 in the horizon, 0 unknown.
 // Stays (1): of unsound lists it gives whatever byte stands there (`state_in`), which no Option of a state holds.
-pub fn state_in(servers: &[u32], states: &[u8], server: u32) -> u8
-    ensures { result ≡ state_in server servers.now states.now }
+pub fn state_in(movers: Movers, server: u32) -> u8
+    ensures { result ≡ state_in server movers.entry.servers.now movers.entry.states.now }
 {
-    match lists::place(servers, server) {
-        Some(p) if p < states.len() => states[p],
+    match lists::place(movers.servers, server) {
+        Some(p) if p < movers.states.len() => movers.states[p],
         _ => 0,
     }
 }

@@ -7,6 +7,7 @@ ghost use Rattle.std.specs.Prelude.{◌≡◌, min};
 ghost use Rattle.sets.specs.Sets.{in_state, working, standby};
 ghost use Rattle.rows.specs.Rows.{Rows, filled, cleared, row_read};
 
+use lists::Movers;
 use ranking::Pick;
 
 // How many places rows and flags have.
@@ -16,18 +17,18 @@ pub const ROW_PLACES: usize = 4096;
 // every weight is computed once: the working servers' for the choice, then the horizon servers'
 // up to the first that outranks it.
 // Stays (2): `hrw::pick` would do, but document 01 names this form, "the inner search is left by a labelled break".
-pub fn fill(rows: &mut [u32], flags: &mut [u8], count: u16, servers: &[u32], states: &[u8])
+pub fn fill(rows: &mut [u32], flags: &mut [u8], count: u16, movers: Movers)
     ensures { record { servers = rows.new; flags = flags.new }
-        ≡ filled count (in_state working servers.now states.now) (in_state standby servers.now states.now)
+        ≡ filled count (in_state working movers.entry.servers.now movers.entry.states.now) (in_state standby movers.entry.servers.now movers.entry.states.now)
         (record { servers = rows.old; flags = flags.old }) }
 {
     for r in 0..in_use(count, rows.len(), flags.len()) {
         let digest = r as u32;
         let mut server = 0;
         let mut flag = 0;
-        if let Some(best) = hrw::choose(servers, states, digest) {
+        if let Some(best) = hrw::choose(movers, digest) {
             server = best.server;
-            'search: for (&standby, &state) in servers.iter().zip(states) {
+            'search: for (&standby, &state) in movers.servers.iter().zip(movers.states) {
                 if state == sets::STANDBY
                     && ranking::heavier(
                         hash::weight(standby, digest),

@@ -84,6 +84,7 @@ pub fn server_at(table: &[u8], place: usize) -> u32
     match index_of(place, table.len() / RECORD_BYTES) {
         Some(i) => {
             let at = i * RECORD_BYTES + SERVER_OFFSET;
+            // Stays (4): a slice's `first_chunk` answers an Option, which would have to be taken apart here.
             bigendian::join4(table[at], table[at + 1], table[at + 2], table[at + 3])
         }
         None => 0,

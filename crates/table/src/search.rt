@@ -77,6 +77,7 @@ impl KeyWords {
 }
 
 // The number that the eight bytes from a place on spell, the lowest first; they are bytes.
+// Stays (4): a slice's `first_chunk` answers an Option, which would have to be taken apart for each record.
 fn word_at(s: &[u8], at: usize) -> u64
     requires { at + 8 ≤ length s.now }
     ensures { (result ≡ word_at s.now at) × BytesAt s.now at 8 }

@@ -6,14 +6,6 @@ use roster::Roster;
 use sets::{STANDBY, WORKING};
 use std::io;
 
-// The servers that a method is given, each with its state at the same index.
-// Stays (6): `hrw::pick`, `rows::fill` and `ringplan::plan` take servers and their states as two slices.
-#[derive(Clone, Copy)]
-pub struct Given<'a> {
-    pub servers: &'a [u32],
-    pub states: &'a [u8],
-}
-
 // One server more, working or in the horizon, where there is room.
 fn with(mut r: Roster, server: u32, state: u8) -> Roster {
     let at = r.held;
@@ -52,14 +44,10 @@ pub(crate) fn step(
     s: Step,
 ) -> io::Result<Roster> {
     let next = changed(r, s);
-    let n = next.held.min(next.servers.len());
-    let given = Given {
-        servers: &next.servers[..n],
-        states: &next.states[..n],
-    };
-    rows.change(given, s);
+    let movers = next.movers();
+    rows.change(movers, s);
     rows.show(output, s)?;
-    picks::show(output, given, s)?;
-    rings::show(output, given, s)?;
+    picks::show(output, movers, s)?;
+    rings::show(output, movers, s)?;
     Ok(next)
 }

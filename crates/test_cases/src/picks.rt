@@ -1,18 +1,18 @@
 // HRW picks, and which of two servers outranks the other.
-use crate::given::Given;
 use crate::say;
 use crate::script::Step;
+use lists::Movers;
 use std::io;
 
 // What HRW gives at a digest: the server, and 1 where it is unsafe.
-fn pick(output: &impl Print, given: Given, digest: u32) -> io::Result<()> {
-    let p = hrw::pick(given.servers, given.states, digest);
+fn pick(output: &impl Print, movers: Movers, digest: u32) -> io::Result<()> {
+    let p = hrw::pick(movers, digest);
     say::numbers(output, &[u64::from(p.server), u64::from(p.flag)])
 }
 
 // The choice at a digest: 1 where there is one, the server, its weight.
-fn best(output: &impl Print, given: Given, digest: u32) -> io::Result<()> {
-    match hrw::choose(given.servers, given.states, digest) {
+fn best(output: &impl Print, movers: Movers, digest: u32) -> io::Result<()> {
+    match hrw::choose(movers, digest) {
         Some(best) => say::numbers(
             output,
             &[1, u64::from(best.server), u64::from(best.measure)],
@@ -38,11 +38,11 @@ fn over(output: &impl Print, a: u32, b: u32) -> io::Result<()> {
 
 // What a step shows of HRW and of the hashes: a pick, the best, a digest, which of two is over the other, the weight of a server on the
 // scales at a digest, or the gap from a point to a position.
-pub(crate) fn show(output: &impl Print, given: Given, s: Step) -> io::Result<()> {
+pub(crate) fn show(output: &impl Print, movers: Movers, s: Step) -> io::Result<()> {
     let Step { word, a, b } = s;
     match word {
-        Some(b'p') => pick(output, given, b),
-        Some(b'b') => best(output, given, b),
+        Some(b'p') => pick(output, movers, b),
+        Some(b'b') => best(output, movers, b),
         Some(b'd') => key(output, (b % 256) as u8),
         Some(b'o') => over(output, a, b),
         Some(b's') => inputs::number(output, u64::from(hash::weight(a, b))),

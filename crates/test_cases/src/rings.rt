@@ -1,7 +1,7 @@
 // Rings planned, and what a key's point reads of them.
-use crate::given::Given;
 use crate::say;
 use crate::script::Step;
+use lists::Movers;
 use ring::Entry;
 use std::io;
 
@@ -38,11 +38,11 @@ fn key(output: &impl Print, plan: &[Entry], n: usize, point: u32) -> io::Result<
 }
 
 // What a step shows of the ring: its entries, or what a key's point reads.
-pub(crate) fn show(output: &impl Print, given: Given, s: Step) -> io::Result<()> {
-    let Given { servers, states } = given;
+pub(crate) fn show(output: &impl Print, movers: Movers, s: Step) -> io::Result<()> {
+    let held = movers.servers.len();
     match s.word {
-        Some(b'e') => entries(output, &ringplan::plan(servers, states), servers.len()),
-        Some(b'k') => key(output, &ringplan::plan(servers, states), servers.len(), s.b),
+        Some(b'e') => entries(output, &ringplan::plan(movers), held),
+        Some(b'k') => key(output, &ringplan::plan(movers), held, s.b),
         _ => Ok(()),
     }
 }

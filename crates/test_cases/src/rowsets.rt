@@ -1,7 +1,7 @@
 // Rows filled, cleared and read.
-use crate::given::Given;
 use crate::say;
 use crate::script::Step;
+use lists::Movers;
 use std::io;
 
 // Rows and their flag bytes.
@@ -14,11 +14,11 @@ pub struct RowSet {
 
 impl RowSet {
     // What a step does to the rows: fill or clear.
-    pub(crate) fn change(&mut self, given: Given, s: Step) {
+    pub(crate) fn change(&mut self, movers: Movers, s: Step) {
         let RowSet { chosen, flags } = self;
         let count = (s.b % 65536) as u16;
         match s.word {
-            Some(b'f') => rows::fill(chosen, flags, count, given.servers, given.states),
+            Some(b'f') => rows::fill(chosen, flags, count, movers),
             Some(b'c') => rows::clear(chosen, flags, count),
             _ => (),
         }

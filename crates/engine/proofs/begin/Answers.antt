@@ -10,4 +10,15 @@ returns-then-not-sizes_right c ns fs es p q r = rw (p, q, r, sym c.sizes_right.e
 pub returns : goal.returns
 unfolding start_of
 returns c ns fs es p q r =
-    rw (p, q, r, sym c.sizes_right.ensures ∙ c.if-not-sizes_right.false, c.start.ensures, c.empty.ensures)
+    rw (
+      p,
+      q,
+      r,
+      sym c.sizes_right.ensures ∙ c.if-not-sizes_right.false,
+      c.start.ensures,
+      c.empty.ensures,
+      c.into-2.ensures,
+      c.default.ensures.0,
+      c.default.ensures.1.0,
+      c.default.ensures.1.1,
+    )

@@ -9,8 +9,8 @@ use Rattle.hrw.proofs.choose.Goals as goal
 pub loop-server-init : goal.loop-server-init
 loop-server-init c =
     let p = c.args in
-    let e : left 1 c.into_iter-server-iterator.result ≡ in_state 1 p.servers.now p.states.now = cc in
-    rw e (kept_all_best heavier (λ s. weight s p.digest) (in_state 1 p.servers.now p.states.now))
+    let e : left 1 c.into_iter-server-iterator.result ≡ in_state 1 p.movers.servers.now p.movers.states.now = cc in
+    rw e (kept_all_best heavier (λ s. weight s p.digest) (in_state 1 p.movers.servers.now p.movers.states.now))
 
 pub loop-server-preserved-then-state-eq-WORKING : goal.loop-server-preserved-then-state-eq-WORKING
 unfolding kept_all

@@ -9,4 +9,4 @@ use Rattle.ranking.proofs.Scan.{kept_all}
 use Rattle.hrw.proofs.choose.Given as goal
 
 abbrev pub invariant-loop-server : goal.invariant-loop-server
-invariant-loop-server l = kept_all heavier (λ s. weight s l.digest) l.best (left 1 l.server-iterator) ≡ best_of (hrw l.digest) (λ s. weight s l.digest) (in_state 1 l.servers l.states)
+invariant-loop-server l = kept_all heavier (λ s. weight s l.digest) l.best (left 1 l.server-iterator) ≡ best_of (hrw l.digest) (λ s. weight s l.digest) (in_state 1 l.movers.servers.now l.movers.states.now)

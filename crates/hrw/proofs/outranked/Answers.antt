@@ -16,6 +16,6 @@ pub returns : goal.returns
 returns c =
     let p = c.args in
     any_from_yields_List (λ (q : ℕ × ℕ). eqb q.1 2 && heavier (weight q.0 p.digest) q.0 p.best.measure p.best.server) c.any.new.self _ c.any.result c.any.ensures.ran
-    (YieldsList-from_zip (YieldsList-at c.zip.ensures.first (YieldsList-from_slice p.servers.now c.iter.ensures.rest)) (YieldsList-from_slice {s = zip_second c.zip.result} p.states.now c.zip.ensures.second.0))
+    (YieldsList-from_zip (YieldsList-at c.zip.ensures.first (YieldsList-from_slice p.movers.servers.now c.iter.ensures.rest)) (YieldsList-from_slice {s = zip_second c.zip.result} p.movers.states.now c.zip.ensures.second.0))
     (λ x b q k. search (rules, tests))
-    ∙ beaten_any heavier (λ s. weight s p.digest) p.best 2 p.servers.now p.states.now
+    ∙ beaten_any heavier (λ s. weight s p.digest) p.best 2 p.movers.servers.now p.movers.states.now

@@ -17,11 +17,11 @@ returns-then-best-eq0 c =
     let n = c.in-Nothing.used in
     let p = c.args in
     let st = state_with p.table.now p.rows.now p.flags.now r in
-    let got : c.pick-best.result ≡ picked (hrw (digest p.asked.f)) (in_state 1 p.servers.now p.states.now) (in_state 2 p.servers.now p.states.now) =
+    let got : c.pick-best.result ≡ picked (hrw (digest p.asked.f)) (in_state 1 p.movers.servers.now p.movers.states.now) (in_state 2 p.movers.servers.now p.movers.states.now) =
     rw c.digest.ensures at c.pick-best.ensures in
-    let q = best_of (digest p.asked.f) r p.servers.now p.states.now c.pick-best.result l got in
+    let q = best_of (digest p.asked.f) r p.movers.servers.now p.movers.states.now c.pick-best.result l got in
     let h : picked (hrw (digest p.asked.f)) (working_set r) (horizon r) ≡ pick_by p.asked.f p.asked.spot st =
-    sym q ∙ pick_hrw p.asked.f p.asked.spot p.table.now p.rows.now p.flags.now r l.sound p.settings s c.pick-best.result p.servers.now p.states.now l c.if-settings-eq-HRW.true got in
+    sym q ∙ pick_hrw p.asked.f p.asked.spot p.table.now p.rows.now p.flags.now r l.sound p.settings s c.pick-best.result p.movers.servers.now p.movers.states.now l c.if-settings-eq-HRW.true got in
     rw c.in-Nothing.is (chosen_none p.asked.key p.table.now p.rows.now p.flags.now (digest p.asked.f) r l.sound n (ap (λ (y : Pick). y.server) (sym q) ∙ c.if-best-eq0.true)
     ∙ ap (λ (y : Pick). judged (asks_key 1 p.asked.key) (record { found = false; reads = n }) y st) h)
 
@@ -31,11 +31,11 @@ returns-then-settings-eq-HRW c =
     let n = c.in-Nothing.used in
     let p = c.args in
     let st = state_with p.table.now p.rows.now p.flags.now r in
-    let got : c.pick-best.result ≡ picked (hrw (digest p.asked.f)) (in_state 1 p.servers.now p.states.now) (in_state 2 p.servers.now p.states.now) =
+    let got : c.pick-best.result ≡ picked (hrw (digest p.asked.f)) (in_state 1 p.movers.servers.now p.movers.states.now) (in_state 2 p.movers.servers.now p.movers.states.now) =
     rw c.digest.ensures at c.pick-best.ensures in
-    let q = best_of (digest p.asked.f) r p.servers.now p.states.now c.pick-best.result l got in
+    let q = best_of (digest p.asked.f) r p.movers.servers.now p.movers.states.now c.pick-best.result l got in
     let h : picked (hrw (digest p.asked.f)) (working_set r) (horizon r) ≡ pick_by p.asked.f p.asked.spot st =
-    sym q ∙ pick_hrw p.asked.f p.asked.spot p.table.now p.rows.now p.flags.now r l.sound p.settings s c.pick-best.result p.servers.now p.states.now l c.if-settings-eq-HRW.true got in
+    sym q ∙ pick_hrw p.asked.f p.asked.spot p.table.now p.rows.now p.flags.now r l.sound p.settings s c.pick-best.result p.movers.servers.now p.movers.states.now l c.if-settings-eq-HRW.true got in
     rw c.in-Nothing.is (c.settle.ensures p.rows.now p.flags.now r
     ∙ ap (λ (y : Pick). packet p.asked.key (record { found = false; reads = n }) y st) q
     ∙ chosen_on p.asked.key p.table.now p.rows.now p.flags.now (digest p.asked.f) r l.sound n (λ z. c.if-best-eq0.false (ap (λ (y : Pick). y.server) q ∙ z))
@@ -50,7 +50,7 @@ returns-then-state_in-ne-WORKING c =
     let got = c.read_pick-pick.result in
     let h : got ≡ pick_by p.asked.f p.asked.spot st =
     pick_read p.asked.f p.asked.spot p.table.now p.rows.now p.flags.now r l.sound p.settings s got c.if-settings-eq-HRW.false c.read_pick-pick.ensures in
-    rw c.in-Nothing.is (led_nowhere p.asked.key p.table.now p.rows.now p.flags.now got r (record { found = false; reads = n }) p.servers.now p.states.now l _ c.idle.ensures
+    rw c.in-Nothing.is (led_nowhere p.asked.key p.table.now p.rows.now p.flags.now got r (record { found = false; reads = n }) p.movers.servers.now p.movers.states.now l _ c.idle.ensures
     (rw c.state_in.ensures at c.if-state_in-ne-WORKING.true)
     ∙ ap (λ (y : Pick). judged (asks_key 1 p.asked.key) (record { found = false; reads = n }) y st) h)
 
@@ -71,6 +71,6 @@ returns-else-state_in-ne-WORKING c =
     let h : got ≡ pick_by p.asked.f p.asked.spot st =
     pick_read p.asked.f p.asked.spot p.table.now p.rows.now p.flags.now r l.sound p.settings s got c.if-settings-eq-HRW.false c.read_pick-pick.ensures in
     rw c.in-Nothing.is (c.settle-in-Nothing.ensures p.rows.now p.flags.now r
-    ∙ led_on p.asked.key p.table.now p.rows.now p.flags.now got r (record { found = false; reads = n }) p.servers.now p.states.now l
+    ∙ led_on p.asked.key p.table.now p.rows.now p.flags.now got r (record { found = false; reads = n }) p.movers.servers.now p.movers.states.now l
     (rw c.state_in.ensures at c.if-state_in-ne-WORKING.false)
     ∙ ap (λ (y : Pick). judged (asks_key 1 p.asked.key) (record { found = false; reads = n }) y st) h)

@@ -6,4 +6,4 @@ use Rattle.ringplan.proofs.Planning.{LaidOut}
 use Rattle.ringplan.proofs.plan.Given as goal
 
 abbrev pub invariant-loop-i : goal.invariant-loop-i
-invariant-loop-i l = (length l.plan ≡ 64) × LaidOut l.servers (in_state 1 l.servers l.states) l.plan l.i
+invariant-loop-i l = (length l.plan ≡ 64) × LaidOut l.movers.servers.now (in_state 1 l.movers.servers.now l.movers.states.now) l.plan l.i

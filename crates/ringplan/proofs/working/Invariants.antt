@@ -3,4 +3,4 @@ use Rattle.ringplan.proofs.Scans.{Collecting}
 use Rattle.ringplan.proofs.working.Given as goal
 
 abbrev pub invariant-loop-server : goal.invariant-loop-server
-invariant-loop-server l = Collecting l.servers l.states l.keys l.held l.server-iterator
+invariant-loop-server l = Collecting l.movers.servers.now l.movers.states.now l.keys l.held l.server-iterator

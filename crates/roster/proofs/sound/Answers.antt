@@ -14,4 +14,4 @@ returns c =
     let r = c.args.r in
     let ws : length r.servers ≡ 64 = search rules in
     let wx : length r.states ≡ 64 = search rules in
-    rw (ws, wx) at c.sound.ensures ∙ past r.held _
+    rw (c.places.ensures.0, c.places.ensures.1, ws, wx) at c.sound.ensures ∙ past r.held _

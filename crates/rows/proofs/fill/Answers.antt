@@ -33,8 +33,8 @@ pub loop-r-preserved : goal.loop-r-preserved
 loop-r-preserved c =
     let p = c.args in
     let r = c.loop-r.r in
-    let working = in_state 1 p.servers.now p.states.now in
-    let horizon = in_state 2 p.servers.now p.states.now in
+    let working = in_state 1 p.movers.servers.now p.movers.states.now in
+    let horizon = in_state 2 p.movers.servers.now p.movers.states.now in
     let m : ℕ → ℕ = λ s. weight s r in
     -- where the ways through the search meet
     let met : (c.match-choose.server ≡ row_server working r) × (c.match-choose.flag ≡ row_flag working horizon r) =

@@ -10,10 +10,10 @@ use Rattle.rows.proofs.fill.Given as goal
 
 abbrev pub invariant-search : goal.invariant-search
 invariant-search l =
-    (beaten heavier (λ s. weight s l.digest) l.best (left 2 l.standby-iterator) ≡ beaten heavier (λ s. weight s l.digest) l.best (in_state 2 l.servers l.states))
+    (beaten heavier (λ s. weight s l.digest) l.best (left 2 l.standby-iterator) ≡ beaten heavier (λ s. weight s l.digest) l.best (in_state 2 l.movers.servers.now l.movers.states.now))
     × (l.flag ≡ 0)
 
 abbrev pub invariant-loop-r : goal.invariant-loop-r
 invariant-loop-r l =
-    (l.rows ≡ written (row_server (in_state 1 l.servers l.states)) l.r l.initial.rows)
-    × (l.flags ≡ written (row_flag (in_state 1 l.servers l.states) (in_state 2 l.servers l.states)) l.r l.initial.flags)
+    (l.rows ≡ written (row_server (in_state 1 l.movers.servers.now l.movers.states.now)) l.r l.initial.rows)
+    × (l.flags ≡ written (row_flag (in_state 1 l.movers.servers.now l.movers.states.now) (in_state 2 l.movers.servers.now l.movers.states.now)) l.r l.initial.flags)

@@ -14,10 +14,10 @@ pub returns-then-all_are : goal.returns-then-all_are
 unfolding sound
 returns-then-all_are c =
     let h = c.args.held in
-    let R = rising 0 (take h c.args.servers.now) in
-    let S = all_stated (take h c.args.states.now) in
-    let A = all_zero (drop h c.args.servers.now) in
-    let Z = all_zero (drop h c.args.states.now) in
+    let R = rising 0 (take h c.args.movers.servers.now) in
+    let S = all_stated (take h c.args.movers.states.now) in
+    let A = all_zero (drop h c.args.movers.servers.now) in
+    let Z = all_zero (drop h c.args.movers.states.now) in
     let r : c.rising.result ≡ R = cc in
     let first : c.if-rising.value ≡ cond R S false =
     elim c.if-rising.branch [
@@ -33,8 +33,8 @@ returns-then-all_are c =
       | else-stated w ↦ let t : cond R S false ≡ false = cc in rw t cc
     ] in
     let z : c.all_zero.result ≡ Z = cc in
-    let fit-servers : leb h (length c.args.servers.now) ≡ true = le-leb _ _ c.if-held-servers.false in
-    let fit-states : leb h (length c.args.states.now) ≡ true = le-leb _ _ c.if-held-states.false in
+    let fit-servers : leb h (length c.args.movers.servers.now) ≡ true = le-leb _ _ c.if-held-movers.false in
+    let fit-states : leb h (length c.args.movers.states.now) ≡ true = le-leb _ _ c.if-held-movers-2.false in
     let few : leb h 64 ≡ true = le-leb _ _ c.if-held-gt-MOST_SERVERS.false in
     let v : valid c.args.settings ≡ true = sym c.if-not-valid.ensures in
     rw (fit-servers, fit-states, few, z) (all_hold R S A Z (valid c.args.settings) (sym second ∙ c.if-all_are.true) v)
@@ -43,10 +43,10 @@ pub returns-else-all_are : goal.returns-else-all_are
 unfolding sound
 returns-else-all_are c =
     let h = c.args.held in
-    let R = rising 0 (take h c.args.servers.now) in
-    let S = all_stated (take h c.args.states.now) in
-    let A = all_zero (drop h c.args.servers.now) in
-    let Z = all_zero (drop h c.args.states.now) in
+    let R = rising 0 (take h c.args.movers.servers.now) in
+    let S = all_stated (take h c.args.movers.states.now) in
+    let A = all_zero (drop h c.args.movers.servers.now) in
+    let Z = all_zero (drop h c.args.movers.states.now) in
     let r : c.rising.result ≡ R = cc in
     let first : c.if-rising.value ≡ cond R S false =
     elim c.if-rising.branch [
@@ -61,7 +61,7 @@ returns-else-all_are c =
           rw t cc
       | else-stated w ↦ let t : cond R S false ≡ false = cc in rw t cc
     ] in
-    let fit-servers : leb h (length c.args.servers.now) ≡ true = le-leb _ _ c.if-held-servers.false in
-    let fit-states : leb h (length c.args.states.now) ≡ true = le-leb _ _ c.if-held-states.false in
+    let fit-servers : leb h (length c.args.movers.servers.now) ≡ true = le-leb _ _ c.if-held-movers.false in
+    let fit-states : leb h (length c.args.movers.states.now) ≡ true = le-leb _ _ c.if-held-movers-2.false in
     let few : leb h 64 ≡ true = le-leb _ _ c.if-held-gt-MOST_SERVERS.false in
     rw (fit-servers, fit-states, few, c.if-all_are.false) (one_fails R S A Z (valid c.args.settings) (sym second ∙ c.if-all_are.false))

@@ -7,14 +7,14 @@ use Rattle.roster.proofs.parts.state_in.Goals as goal
 
 pub returns-in-Some : goal.returns-in-Some
 returns-in-Some c =
-    let f = found_some c.args.server c.in-Some.p c.args.servers.now c.in-Some.ensures in
-    rw (← f.0) (sym (state_here c.args.server c.args.servers.now c.args.states.now (omega (arith, f.0, f.1)) (omega (arith, f.0))))
+    let f = found_some c.args.server c.in-Some.p c.args.movers.servers.now c.in-Some.ensures in
+    rw (← f.0) (sym (state_here c.args.server c.args.movers.servers.now c.args.movers.states.now (omega (arith, f.0, f.1)) (omega (arith, f.0))))
 
 pub returns-in_default : goal.returns-in_default
 returns-in_default c =
-    let f = found_some c.args.server c.in-Some.p c.args.servers.now c.in-Some.ensures in
-    sym (state_short c.args.server c.args.servers.now c.args.states.now (omega (arith, f.0)))
+    let f = found_some c.args.server c.in-Some.p c.args.movers.servers.now c.in-Some.ensures in
+    sym (state_short c.args.server c.args.movers.servers.now c.args.movers.states.now (omega (arith, f.0)))
 
 pub returns-in_default-2 : goal.returns-in_default-2
 returns-in_default-2 c =
-    sym (state_none c.args.server c.args.servers.now c.args.states.now (found_none c.args.server c.args.servers.now c.in_default.ensures))
+    sym (state_none c.args.server c.args.movers.servers.now c.args.movers.states.now (found_none c.args.server c.args.movers.servers.now c.in_default.ensures))
