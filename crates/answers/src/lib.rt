@@ -4,10 +4,11 @@
 
 ghost use Rattle.std.specs.Prelude.{◌≡◌, List, ℕ};
 ghost use Rattle.roster.specs.declared.Roster.{Roster};
+ghost use Rattle.rows.specs.Rows.{Rows};
 ghost use Rattle.rules.specs.declared.Reply.TheVariants.{Accepted};
-ghost use Rattle.rules.specs.Rules.{taken as taken-by, state_with};
+ghost use Rattle.rules.specs.Rules.{taken as taken-by};
 ghost use Rattle.rules.specs.Answer.{answer_of};
-ghost use Rattle.answers.specs.Reacting.{done_as, NumbersOf};
+ghost use Rattle.answers.specs.Reacting.{state_over, done_as, NumbersOf};
 
 use roster::Roster;
 use rules::Reply;
@@ -47,7 +48,7 @@ pub struct Done {
 
 // An accepted roster change or configure: server, mark and reads are 0.
 pub fn taken(redraw: bool) -> Done
-    ensures { (t rows flags : List ℕ) (r : Roster) → done_as result t rows flags r ≡ taken-by redraw (state_with t rows flags r) }
+    ensures { (t : List ℕ) (rows : Rows) (r : Roster) → done_as result t rows r ≡ taken-by redraw (state_over t rows r) }
 {
     Done {
         facts: Facts::default(),

@@ -8,10 +8,11 @@ ghost use Rattle.engine.specs.Looking.{redrawn};
 
 use ring::Entry;
 use roster::Roster;
+use rows::RowTable;
 use rules::Outcome;
 
 // Does what an event record asks, or refuses it by its number and changes nothing.
-// Stays (5): the public face is lent its buffers one by one; so too in `start`.
+// Stays (5): `EventPromise` is of the buffers one by one, as callers hold them; so too in `start`.
 pub fn event(
     record: &[u8],
     table: &mut [u8],
@@ -26,7 +27,11 @@ pub fn event(
 {
     let seen = engine::look(record, table, rows.len(), flags.len(), ring.len(), roster);
     let spot = ring::read(ring, seen.places, seen.f);
-    let out = engine::react(seen, spot, table, rows, flags, roster);
+    let mut lent = RowTable {
+        servers: rows,
+        flags,
+    };
+    let out = engine::react(seen, spot, table, &mut lent, roster);
     redraw(ring, out.roster, out.redraw);
     Outcome {
         reply: out.reply,

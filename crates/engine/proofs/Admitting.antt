@@ -7,6 +7,7 @@ use Rattle.sets.proofs.Cases.{both, clash}
 use Rattle.std.specs.Prelude.{Result}
 use Rattle.std.specs.Result.{IsErrAnd}
 use Rattle.std.proofs.lemmas.Result.{err_from_is_err_and}
+use Rattle.rows.specs.Rows.{Rows}
 use Rattle.event.specs.declared.Event.{Event}
 use Rattle.event.specs.declared.Event.TheVariants.{Packet}
 use Rattle.event.specs.Event.{Request, refused_by, asks_key, request_by, request_of}
@@ -16,10 +17,10 @@ use Rattle.roster.specs.Roster.{sound}
 use Rattle.table.specs.Table.{finding_of}
 use Rattle.rules.specs.declared.Refusal.{Refusal}
 use Rattle.rules.specs.Answer.{number_of}
-use Rattle.rules.specs.Rules.{state_with, State, Change, is, lent_bar, admitted, judged, refused, pick_by}
+use Rattle.rules.specs.Rules.{State, Change, is, lent_bar, admitted, judged, refused, pick_by}
 use Rattle.engine.specs.declared.Lookup.{Lookup}
 use Rattle.answers.specs.declared.Done.{Done}
-use Rattle.answers.specs.Reacting.{settled}
+use Rattle.answers.specs.Reacting.{state_over, settled}
 use Rattle.engine.specs.Looking.{admitted_so_far, react_of}
 
 pub either : (p o : Bool) → o ≡ true → cond p true o ≡ true
@@ -80,6 +81,6 @@ unfolding judged
 as_refused n seen spot st h = as_asked seen spot st (refused n st) (refused_by n) h refl refl
 
 -- a refusal that a `?` hands on
-pub handed_on : (v : Result Done Refusal) (e : Refusal) (t rows flags : List ℕ) (r : Roster) → IsErrAnd v (λ y. y ≡ e)
-    → settled v t rows flags r ≡ refused (number_of e) (state_with t rows flags r)
-handed_on v e t rows flags r i = let p = err_from_is_err_and v i in rw (p.1, p.2)
+pub handed_on : (v : Result Done Refusal) (e : Refusal) (t : List ℕ) (rows : Rows) (r : Roster) → IsErrAnd v (λ y. y ≡ e)
+    → settled v t rows r ≡ refused (number_of e) (state_over t rows r)
+handed_on v e t rows r i = let p = err_from_is_err_and v i in rw (p.1, p.2)

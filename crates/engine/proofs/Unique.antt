@@ -7,6 +7,7 @@ use Rattle.event.proofs.Unique.{told_apart as event-apart}
 use Rattle.table.proofs.Unique.{told_apart as found-apart}
 use Rattle.ring.specs.declared.Entry.{Entry}
 use Rattle.ring.specs.Ring.{blank}
+use Rattle.rows.specs.Lent.{rows_in}
 use Rattle.rules.specs.declared.Outcome.{Outcome}
 use Rattle.rules.specs.Rules.{World}
 use Rattle.rules.proofs.Unique.{start_unique}
@@ -35,8 +36,8 @@ pub plan_of_unique : (κs : _) (a : _) (x y : List Entry) (e e' : _) → plan-of
 plan_of_unique κs a x y e e' p q = p ∙ sym q
 
 pub react_unique : (κs : _) (a : _) (v v' : Reaction) (e e' : _) → react-promise κs a v e → react-promise κs a v' e'
-    → SameReaction v v' e.1.1.0.now e'.1.1.0.now e.1.1.1.0.now e'.1.1.1.0.now e.1.1.1.1.0.now e'.1.1.1.1.0.now
-react_unique κs a v v' e e' p q = reaction_unique v v' _ _ _ _ _ _ _ p q
+    → SameReaction v v' e.1.1.0.now e'.1.1.0.now (rows_in e.1.1.1.0.now) (rows_in e'.1.1.1.0.now)
+react_unique κs a v v' e e' p q = reaction_unique v v' _ _ _ _ _ p.1 q.1
 
 -- some lists of the lengths that are lent
 pub begin_unique : (κs : _) (a : _) (o o' : Outcome) (e e' : _) → begin-promise κs a o e → begin-promise κs a o' e'

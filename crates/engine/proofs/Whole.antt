@@ -19,6 +19,7 @@ use Rattle.ring.specs.declared.Entry.{Entry}
 use Rattle.ring.specs.Ring.{entry_read, overlaid}
 use Rattle.ringplan.specs.Plan.{planned, drawn}
 use Rattle.ringplan.proofs.Planning.{overlaid-drawn}
+use Rattle.rows.specs.Rows.{Rows}
 use Rattle.rules.specs.Answer.{answer_of}
 use Rattle.rules.specs.Rules.{state_with, world_with, State, World, Change, is, lent_bar, admitted, judged, barred, effect, packet, pick_by, sized_for, settled, event_of, EventPromise}
 use Rattle.rules.proofs.Sizes.{right_sizes}
@@ -195,18 +196,18 @@ module _ (bytes : List ℕ) (w : World) where
       st
 
   -- THE WHOLE: what the four calls of `event` promise, together
-  pub whole_event : (seen : Lookup) (spot : Entry) (out : Reaction) (t' rows' flags' : List ℕ) (ring' : List Entry)
+  pub whole_event : (seen : Lookup) (spot : Entry) (out : Reaction) (t' : List ℕ) (rows' : Rows) (ring' : List Entry)
       → length out.roster.servers ≡ 64
       → lookup_facts seen ≡ look_of sized_here (event_in bytes) st.table st.roster
       → spot ≡ entry_read seen.places seen.f w.ring
-      → reacted out t' rows' flags' ≡ react_of seen spot st
+      → reacted out t' rows' ≡ react_of seen spot st
       → ring' ≡ redrawn out.redraw out.roster w.ring
-      → EventPromise bytes w (world_with t' rows' flags' ring' out.roster) out.reply
+      → EventPromise bytes w (world_with t' rows'.servers rows'.flags ring' out.roster) out.reply
   unfolding event_of look_of
-  whole_event seen spot out t' rows' flags' ring' n look read react draw =
+  whole_event seen spot out t' rows' ring' n look read react draw =
       let reactTo : LookupFacts → Change =
       λ l. judged (admitted (lent_bar l.sized (sound st.roster)) l.request) l.found (pick_by l.f (entry_read l.places l.f w.ring) st) st in
-      let change : reacted out t' rows' flags' ≡ judged_here =
+      let change : reacted out t' rows' ≡ judged_here =
       react
       ∙ ap (λ (x : Entry). react_of seen x st) read
       ∙ ap reactTo look
@@ -221,6 +222,6 @@ module _ (bytes : List ℕ) (w : World) where
             (redraw_few admitted_here _ _ st (sound_parts st.roster (redraw_sound _ (sound st.roster) (event_in bytes) _ _ st d)).few d),
       ) in
       ap
-      (λ (es : List Entry). record { answer = answer_of out.reply; world = world_with t' rows' flags' es out.roster })
+      (λ (es : List Entry). record { answer = answer_of out.reply; world = world_with t' rows'.servers rows'.flags es out.roster })
       (draw ∙ redrawn-is out.redraw out.roster w.ring n sized)
       ∙ ap (λ (c : Change). settled c w.ring) change

@@ -9,21 +9,23 @@ mod looking;
 ghost use Rattle.std.specs.Prelude.{◌≡◌, length, List, ℕ};
 ghost use Rattle.event.specs.Event.{request_of, event_in};
 ghost use Rattle.roster.specs.Roster.{sound as sound_of, held_servers, working_set};
+ghost use Rattle.rows.specs.Lent.{rows_in, SameLists};
 ghost use Rattle.ringplan.specs.Plan.{planned};
-ghost use Rattle.rules.specs.Rules.{state_with, world_with, StartPromise, sizes_right};
+ghost use Rattle.rules.specs.Rules.{world_with, StartPromise, sizes_right};
 ghost use Rattle.engine.specs.Looking.{look_of, lookup_facts, admitted_so_far, asked_by, react_of};
-ghost use Rattle.answers.specs.Reacting.{reacted, settled};
+ghost use Rattle.answers.specs.Reacting.{state_over, reacted, settled};
 
 use answers::{Done, Facts, Reaction};
 use event::{Event, Fault};
 use packets::Asked;
 use ring::Entry;
 use roster::Roster;
+use rows::RowTable;
 use rules::{Outcome, Refusal};
 use table::Found;
 
 // What a look at an event record finds before the ring is read.
-// Stays (1): where no entry is wanted, f and places are 0, and nobody looks at what `ring::read` gives then; an Option would be asked twice.
+// Stays (1): an Option of places is no plainer: of 0 places `ring::read` gives an entry, which nobody looks at.
 #[derive(Clone, Copy)]
 pub struct Lookup {
     pub event: Result<Event, Fault>,
@@ -54,14 +56,14 @@ pub fn react(
     seen: Lookup,
     spot: Entry,
     table: &mut [u8],
-    rows: &mut [u32],
-    flags: &mut [u8],
+    rows: &mut RowTable,
     mut roster: Roster,
 ) -> Reaction
-    ensures { reacted result table.new rows.new flags.new
-        ≡ react_of seen spot (state_with table.old rows.old flags.old roster) }
+    ensures same { SameLists rows.old rows.new }
+    ensures done { reacted result table.new (rows_in rows.new)
+        ≡ react_of seen spot (state_over table.old (rows_in rows.old) roster) }
 {
-    match settle(seen, spot, table, rows, flags, &mut roster) {
+    match settle(seen, spot, table, rows, &mut roster) {
         Ok(done) => Reaction {
             reply: done.facts.into(),
             roster,
@@ -80,12 +82,12 @@ fn settle(
     seen: Lookup,
     spot: Entry,
     table: &mut [u8],
-    rows: &mut [u32],
-    flags: &mut [u8],
+    rows: &mut RowTable,
     roster: &mut Roster,
 ) -> Result<Done, Refusal>
-    ensures { settled result table.new rows.new flags.new roster.new
-        ≡ react_of seen spot (state_with table.old rows.old flags.old roster.old) }
+    ensures same { SameLists rows.old rows.new }
+    ensures done { settled result table.new (rows_in rows.new) roster.new
+        ≡ react_of seen spot (state_over table.old (rows_in rows.old) roster.old) }
 {
     match admit(seen.event, seen.sized, roster)? {
         Event::Packet(key) => {
@@ -95,7 +97,7 @@ fn settle(
                 f: seen.f,
                 spot,
             };
-            let facts = packets::packet(asked, table, rows, flags, roster)?;
+            let facts = packets::packet(asked, table, rows, roster)?;
             Ok(Done {
                 facts,
                 redraw: false,
@@ -105,11 +107,11 @@ fn settle(
             facts: changes::end(seen.found, table),
             redraw: false,
         }),
-        Event::AddWorking(server) => changes::add_working(server, rows, flags, roster),
-        Event::RemoveWorking(server) => changes::remove_working(server, table, rows, flags, roster),
-        Event::AddHorizon(server) => changes::add_horizon(server, rows, flags, roster),
-        Event::RemoveHorizon(server) => changes::remove_horizon(server, rows, flags, roster),
-        Event::Configure(settings) => changes::configure(settings, table, rows, flags, roster),
+        Event::AddWorking(server) => changes::add_working(server, rows, roster),
+        Event::RemoveWorking(server) => changes::remove_working(server, table, rows, roster),
+        Event::AddHorizon(server) => changes::add_horizon(server, rows, roster),
+        Event::RemoveHorizon(server) => changes::remove_horizon(server, rows, roster),
+        Event::Configure(settings) => changes::configure(settings, table, rows, roster),
     }
 }
 

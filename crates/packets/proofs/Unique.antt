@@ -7,4 +7,4 @@ use Rattle.packets.proofs.packet.Reads.{Learnt as packet-promise}
 
 pub packet_unique : (κs : _) (a : _) (v v' : Result Facts Refusal) (e e' : _) → packet-promise κs a v e → packet-promise κs a v' e'
     → SameReply v v' e.1.0.now e'.1.0.now
-packet_unique κs a v v' e e' p q = reply_unique v v' _ _ _ _ _ _ p q
+packet_unique κs a v v' e e' p q = reply_unique v v' _ _ _ _ _ p q

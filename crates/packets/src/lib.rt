@@ -5,14 +5,15 @@
 ghost use Rattle.std.specs.Prelude.{◌≡◌, true, cond, List, ℕ, eqb};
 ghost use Rattle.sets.specs.Sets.{in_state, working};
 ghost use Rattle.settings.specs.Settings.{by_row_table};
-ghost use Rattle.rows.specs.Rows.{row_read};
+ghost use Rattle.rows.specs.Rows.{Rows, row_read};
+ghost use Rattle.rows.specs.Lent.{rows_in};
 ghost use Rattle.ring.specs.Ring.{gives};
 ghost use Rattle.event.specs.Event.{asks_key};
 ghost use Rattle.table.specs.Table.{Finding, finding_of};
 ghost use Rattle.ringplan.specs.Plan.{some};
 ghost use Rattle.rules.specs.declared.Refusal.TheVariants.{LedToIdle, NoneWorking};
-ghost use Rattle.rules.specs.Rules.{state_with, judged, packet as packet-done};
-ghost use Rattle.answers.specs.Reacting.{replied, served};
+ghost use Rattle.rules.specs.Rules.{judged, packet as packet-done};
+ghost use Rattle.answers.specs.Reacting.{state_over, replied, served};
 ghost use Rattle.packets.specs.Lent.{Lent, led_of, packet_of};
 
 use answers::Facts;
@@ -20,6 +21,7 @@ use lists::Movers;
 use ranking::Pick;
 use ring::Entry;
 use roster::Roster;
+use rows::RowTable;
 use rules::Refusal;
 use settings::Settings;
 use table::Found;
@@ -34,20 +36,14 @@ pub struct Asked {
 }
 
 // A packet: refused where the roster hasn't its stated form.
-pub fn packet(
-    asked: Asked,
-    table: &mut [u8],
-    rows: &[u32],
-    flags: &[u8],
-    r: &Roster,
-) -> Result<Facts, Refusal>
-    ensures { replied result table.new rows.now flags.now r.now
-        ≡ packet_of asked.key asked.found asked.f asked.spot (state_with table.old rows.now flags.now r.now) }
+pub fn packet(asked: Asked, table: &mut [u8], rows: &RowTable, r: &Roster) -> Result<Facts, Refusal>
+    ensures { replied result table.new (rows_in rows.now) r.now
+        ≡ packet_of asked.key asked.found asked.f asked.spot (state_over table.old (rows_in rows.now) r.now) }
 {
     if !roster::parts::sound(r.places(), r.held, r.settings) {
         return Err(Refusal::UnsoundRoster);
     }
-    lead(asked, table, rows, flags, r.movers(), r.settings)
+    lead(asked, table, rows, r.movers(), r.settings)
 }
 
 // A packet that meets a sound roster, of which it is lent the movers. Where the key has no record,
@@ -55,14 +51,13 @@ pub fn packet(
 fn lead(
     asked: Asked,
     table: &mut [u8],
-    rows: &[u32],
-    flags: &[u8],
+    rows: &RowTable,
     movers: Movers,
     settings: Settings,
 ) -> Result<Facts, Refusal>
     ensures { (r : Roster) → Lent r movers.entry.servers.now movers.entry.states.now → r.settings ≡ settings
-        → replied result table.new rows.now flags.now r
-        ≡ led_of asked.key asked.found asked.f asked.spot (state_with table.old rows.now flags.now r) }
+        → replied result table.new (rows_in rows.now) r
+        ≡ led_of asked.key asked.found asked.f asked.spot (state_over table.old (rows_in rows.now) r) }
 {
     match asked.found {
         Found::At(place) => known(place, table, movers),
@@ -74,7 +69,7 @@ fn lead(
                 }
                 return Ok(settle(asked.key, used, best, table));
             }
-            let pick = read_pick(asked.f, asked.spot, rows, flags, settings);
+            let pick = read_pick(asked.f, asked.spot, rows, settings);
             if roster::parts::state_in(movers, pick.server) != sets::WORKING {
                 return Err(idle(movers));
             }
@@ -84,12 +79,12 @@ fn lead(
 }
 
 // What methods 2 and 3 read: the row, or the ring's entry.
-fn read_pick(f: u32, spot: Entry, rows: &[u32], flags: &[u8], settings: Settings) -> Pick
+fn read_pick(f: u32, spot: Entry, rows: &RowTable, settings: Settings) -> Pick
     ensures { result ≡ cond (eqb settings.method by_row_table)
-        (row_read settings.rows f (record { servers = rows.now; flags = flags.now })) (gives spot) }
+        (row_read settings.rows f (rows_in rows.now)) (gives spot) }
 {
     if settings.method == settings::ROW_TABLE {
-        return rows::read(rows, flags, settings.rows, f);
+        return rows.read(settings.rows, f);
     }
     Pick {
         server: spot.server,
@@ -99,9 +94,9 @@ fn read_pick(f: u32, spot: Entry, rows: &[u32], flags: &[u8], settings: Settings
 
 // A key with a record: its server, or a refusal.
 fn known(place: usize, table: &[u8], movers: Movers) -> Result<Facts, Refusal>
-    ensures { (key : List ℕ) (pick : Pick) (rows flags : List ℕ) (r : Roster) → Lent r movers.entry.servers.now movers.entry.states.now
-        → replied result table.now rows flags r
-        ≡ judged (asks_key 1 key) (finding_of (Found.At place)) pick (state_with table.now rows flags r) }
+    ensures { (key : List ℕ) (pick : Pick) (rows : Rows) (r : Roster) → Lent r movers.entry.servers.now movers.entry.states.now
+        → replied result table.now rows r
+        ≡ judged (asks_key 1 key) (finding_of (Found.At place)) pick (state_over table.now rows r) }
 {
     let server = table::server_at(table, place);
     if roster::parts::state_in(movers, server) != sets::WORKING {
@@ -116,9 +111,9 @@ fn known(place: usize, table: &[u8], movers: Movers) -> Result<Facts, Refusal>
 
 // The server picked, which works: it is recorded where it is unsafe and there is room.
 fn settle(key: [u8; table::KEY_BYTES], used: usize, pick: Pick, table: &mut [u8]) -> Facts
-    ensures { (rows flags : List ℕ) (r : Roster)
-        → served result table.new rows flags r
-        ≡ packet-done key (finding_of (Found.Nothing used)) pick (state_with table.old rows flags r) }
+    ensures { (rows : Rows) (r : Roster)
+        → served result table.new rows r
+        ≡ packet-done key (finding_of (Found.Nothing used)) pick (state_over table.old rows r) }
 {
     let server = pick.server;
     if !pick.flag {

@@ -45,7 +45,7 @@ fn count(line: &impl Print, n: u64, behind: &[u8]) -> io::Result<()> {
 }
 
 // What a capture is refused by: the number, the byte where it stands, and what it means.
-fn refused(line: &impl Print, ending: Option<Ending>, magic: u32) -> io::Result<()> {
+fn refused(line: &impl Print, ending: Option<Ending>, magic: Option<u32>) -> io::Result<()> {
     let Some(Ending { refusal, at }) = ending else {
         return Ok(());
     };
@@ -62,13 +62,13 @@ fn refused(line: &impl Print, ending: Option<Ending>, magic: u32) -> io::Result<
 }
 
 // Names the format of a file that is no classic capture, where it is known, and what makes one of it.
-fn format(line: &impl Print, magic: u32) -> io::Result<()> {
+fn format(line: &impl Print, magic: Option<u32>) -> io::Result<()> {
     match magic {
-        PCAPNG => inputs::text(
+        Some(PCAPNG) => inputs::text(
             line,
             b" (this is pcapng; editcap -F pcap makes a classic capture of it)",
         ),
-        NANOSECONDS | NANOSECONDS_LOW_FIRST => inputs::text(
+        Some(NANOSECONDS | NANOSECONDS_LOW_FIRST) => inputs::text(
             line,
             b" (this is a nanosecond capture; editcap -F pcap makes a classic one of it)",
         ),
@@ -76,10 +76,7 @@ fn format(line: &impl Print, magic: u32) -> io::Result<()> {
     }
 }
 
-// The number that a file's first four bytes spell; 0 where there are fewer.
-// Stays (1): the number is only compared with those of known formats, and 0 is none of them.
-fn first_number(buffer: &[u8]) -> u32 {
-    buffer
-        .first_chunk()
-        .map_or(0, |bytes| u32::from_be_bytes(*bytes))
+// The number that a file's first four bytes spell.
+fn first_number(buffer: &[u8]) -> Option<u32> {
+    buffer.first_chunk().map(|bytes| u32::from_be_bytes(*bytes))
 }

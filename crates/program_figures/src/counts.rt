@@ -2,6 +2,7 @@
 use lists::Movers;
 use ranking::Pick;
 use ring::Entry;
+use rows::RowTable;
 use std::fmt;
 
 // How keys are led to servers; of rows there are so many.
@@ -67,12 +68,12 @@ fn said(entry: Entry) -> Pick {
 fn by_rows(points: &[u32], movers: Movers, rows: u16) -> Counts {
     let mut chosen = [0u32; rows::ROW_PLACES];
     let mut flags = [0u8; rows::ROW_PLACES];
-    rows::fill(&mut chosen, &mut flags, rows, movers);
-    counted(
-        points,
-        movers.servers,
-        |point| rows::read(&chosen, &flags, rows, point),
-    )
+    let mut table = RowTable {
+        servers: &mut chosen,
+        flags: &mut flags,
+    };
+    table.fill(rows, movers);
+    counted(points, movers.servers, |point| table.read(rows, point))
 }
 
 // The keys by the ring.

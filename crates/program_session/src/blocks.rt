@@ -47,7 +47,6 @@ fn whole(have: usize) -> usize
     have - have % EVENT_BYTES
 }
 
-// Stays (2): `inputs::read_full` reads until the buffer is full; this stops at the first record, so that it is answered at once.
 // Reads behind the first `kept` bytes until there is a record or the input ends, and says how many bytes there are then.
 fn fill(input: &mut impl Read, block: &mut [u8; BLOCK_BYTES], kept: usize) -> usize
     requires { kept ≤ 16 }

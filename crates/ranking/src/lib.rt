@@ -29,7 +29,6 @@ pub fn nearer(distance_a: u32, a: u32, distance_b: u32, b: u32) -> bool
 }
 
 // What a method gives a packet without a record: the choice over the working servers, and whether it is unsafe.
-// Stays (1): rows and ring entries hold server 0 where none works, and HRW answers as what is read of them does (`picked`).
 #[derive(Clone, Copy, PartialEq, Eq)]
 pub struct Pick {
     pub server: u32,

@@ -65,7 +65,7 @@ pub fn sound(r: Roster) -> bool
 }
 
 // The state of a server: 1 working, 2 in the horizon, 0 unknown.
-// Stays (1): of an unsound roster it gives whatever byte stands there (`state_of`), which no Option of a state holds.
+// Stays (1): the rules of the roster's changes go by the number, 0 included (`state_of`); of an unsound roster it may be any byte.
 pub fn state_of(r: Roster, server: u32) -> u8
     ensures { result ≡ state_of server r }
 {

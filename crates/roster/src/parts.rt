@@ -30,7 +30,7 @@ pub fn sound(movers: Movers, held: usize, settings: Settings) -> bool
 }
 
 // The state of a server among those held: 1 working, 2 in the horizon, 0 unknown.
-// Stays (1): of unsound lists it gives whatever byte stands there (`state_in`), which no Option of a state holds.
+// Stays (1): the rules of a packet go by the number, 0 included (`state_in`); of unsound lists it may be any byte.
 pub fn state_in(movers: Movers, server: u32) -> u8
     ensures { result ≡ state_in server movers.entry.servers.now movers.entry.states.now }
 {

@@ -2,15 +2,15 @@
 use mathlib.Core.Path.{◌≡◌, sym, ap, ◌∙◌}
 use Rattle.ranking.specs.declared.Pick.{Pick}
 use Rattle.rows.specs.Rows.{Rows}
-use Rattle.rows.proofs.fill.Reads.{Learnt as fill-promise}
-use Rattle.rows.proofs.clear.Reads.{Learnt as clear-promise}
-use Rattle.rows.proofs.read.Reads.{Learnt as read-promise}
+use Rattle.rows.proofs.RowTable.fill.Reads.{Learnt as fill-promise}
+use Rattle.rows.proofs.RowTable.clear.Reads.{Learnt as clear-promise}
+use Rattle.rows.proofs.RowTable.read.Reads.{Learnt as read-promise}
 
-pub fill_unique : (κs : _) (a : _) (x y : _) (e e' : _) → fill-promise κs a x e → fill-promise κs a y e' → (e.0.now ≡ e'.0.now) × (e.1.0.now ≡ e'.1.0.now)
-fill_unique κs a x y e e' p q = (ap (λ (r : Rows). r.servers) (p ∙ sym q), ap (λ (r : Rows). r.flags) (p ∙ sym q))
+pub fill_unique : (κs : _) (a : _) (x y : _) (e e' : _) → fill-promise κs a x e → fill-promise κs a y e' → (e.0.now.servers.now ≡ e'.0.now.servers.now) × (e.0.now.flags.now ≡ e'.0.now.flags.now)
+fill_unique κs a x y e e' p q = (ap (λ (r : Rows). r.servers) (p.1 ∙ sym q.1), ap (λ (r : Rows). r.flags) (p.1 ∙ sym q.1))
 
-pub clear_unique : (κs : _) (a : _) (x y : _) (e e' : _) → clear-promise κs a x e → clear-promise κs a y e' → (e.0.now ≡ e'.0.now) × (e.1.0.now ≡ e'.1.0.now)
-clear_unique κs a x y e e' p q = (ap (λ (r : Rows). r.servers) (p ∙ sym q), ap (λ (r : Rows). r.flags) (p ∙ sym q))
+pub clear_unique : (κs : _) (a : _) (x y : _) (e e' : _) → clear-promise κs a x e → clear-promise κs a y e' → (e.0.now.servers.now ≡ e'.0.now.servers.now) × (e.0.now.flags.now ≡ e'.0.now.flags.now)
+clear_unique κs a x y e e' p q = (ap (λ (r : Rows). r.servers) (p.1 ∙ sym q.1), ap (λ (r : Rows). r.flags) (p.1 ∙ sym q.1))
 
 pub read_unique : (κs : _) (a : _) (x y : Pick) (e e' : _) → read-promise κs a x e → read-promise κs a y e' → x ≡ y
 read_unique κs a x y e e' p q = cc

@@ -11,7 +11,6 @@ ghost use Rattle.rules.specs.Answer.{number_of};
 use event::Fault;
 use roster::Roster;
 
-// Stays (1): document 01's Reply carries a mark as its number. As an enum it would be written alike, with one more case for a change's 0.
 // The marks of accepted packets: from the key's record; chosen and safe; chosen and recorded; chosen, unsafe and no room.
 pub const FROM_RECORD: u8 = 1;
 

@@ -6,7 +6,7 @@ ghost use Rattle.std.specs.Prelude.{◌≡◌};
 ghost use Rattle.settings.specs.Settings.{valid as valid-of, fresh as fresh-of, named as named-of, well_formed};
 
 // The three methods, by their numbers.
-// Stays (1): any byte may be lent as a method; refusal 11 (`valid`) is for those other than these three, which an enum couldn't hold.
+// Stays (1): any byte may be lent as a method; refusals 1 and 11 (`valid`) are for those other than these three, which no enum holds.
 pub const HRW: u8 = 1;
 
 pub const RING: u8 = 2;

@@ -92,7 +92,6 @@ pub fn server_at(table: &[u8], place: usize) -> u32
 }
 
 // The tag of the record at a place, 0 where there is no such place.
-// Stays (1): the rules of an end go by the definition's number (`tag_at`).
 #[tactic(auto, using(crate::proofs::Places::no_tag, crate::proofs::Places::tag_in))]
 pub fn tag_at(table: &[u8], place: usize) -> u8
     ensures { result ≡ tag_at place table.now }

@@ -5,7 +5,7 @@ use std::io;
 
 // The sums, the refusal's number and the byte where it stands, and a digest of the events. The number is 0 where there is no
 // refusal, and 255 where there was no room for all events.
-// Stays (1): the refusal is printed as its number, 0 for none.
+// Stays (1): the refusal is printed as its number, 0 for none, 255 where there was no room for all events.
 #[derive(Clone, Copy, PartialEq, Eq)]
 pub struct Numbers {
     pub tally: Tally,
@@ -55,8 +55,13 @@ pub(crate) fn come_to(capture: &[u8], out: &mut [u8]) -> Numbers {
     let (refusal, at) = match done.stop {
         Stop::Full => (255, 0),
         Stop::Finished => (0, 0),
-        Stop::Refused(Refusal::TruncatedRecord) => (22, done.at as u64),
-        Stop::Refused(refusal) => (refusal.number(), 0),
+        Stop::Refused(refusal) => (
+            refusal.number(),
+            match refusal {
+                Refusal::TruncatedRecord => done.at as u64,
+                _ => 0,
+            },
+        ),
     };
     Numbers {
         tally: done.tally,

@@ -2,10 +2,10 @@
 use crate::say;
 use crate::script::Step;
 use lists::Movers;
+use rows::RowTable;
 use std::io;
 
 // Rows and their flag bytes.
-// Stays (6): `rows::fill` and `rows::read` take rows and flags as two slices.
 #[derive(Drop)]
 pub struct RowSet {
     pub chosen: [u32; 4096],
@@ -16,10 +16,14 @@ impl RowSet {
     // What a step does to the rows: fill or clear.
     pub(crate) fn change(&mut self, movers: Movers, s: Step) {
         let RowSet { chosen, flags } = self;
+        let mut rows = RowTable {
+            servers: chosen,
+            flags,
+        };
         let count = (s.b % 65536) as u16;
         match s.word {
-            Some(b'f') => rows::fill(chosen, flags, count, movers),
-            Some(b'c') => rows::clear(chosen, flags, count),
+            Some(b'f') => rows.fill(count, movers),
+            Some(b'c') => rows.clear(count),
             _ => (),
         }
     }
@@ -39,13 +43,18 @@ impl RowSet {
     }
 
     // What a key whose F is f reads of some rows: the server, and 1 where the flag is set.
-    fn look(&self, output: &impl Print, count: u16, f: u32) -> io::Result<()> {
-        let p = rows::read(&self.chosen, &self.flags, count, f);
+    fn look(&mut self, output: &impl Print, count: u16, f: u32) -> io::Result<()> {
+        let RowSet { chosen, flags } = self;
+        let rows = RowTable {
+            servers: chosen,
+            flags,
+        };
+        let p = rows.read(count, f);
         pair(output, p.server, u8::from(p.flag))
     }
 
     // What a step shows of the rows: a row, the total, or a look by F.
-    pub(crate) fn show(&self, output: &impl Print, s: Step) -> io::Result<()> {
+    pub(crate) fn show(&mut self, output: &impl Print, s: Step) -> io::Result<()> {
         match s.word {
             Some(b'r') => self.row(output, s.b as usize),
             Some(b't') => inputs::number(output, u64::from(self.total(s.b as usize))),

@@ -2,7 +2,7 @@
 // that begins with a capital letter is no step. An equals sign stands before each section but the first.
 
 // What was read of a step: its word's first letter, the number before the last space, and the one behind it.
-// Stays (7): a word is known by its first letter, matched once where its section does the step; an enum between would list it twice.
+// Stays (7): each letter has one arm, where what it stands for is done or shown; an enum between would list them twice.
 #[derive(Clone, Copy, Default)]
 pub struct Step {
     pub word: Option<u8>,

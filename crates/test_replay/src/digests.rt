@@ -79,6 +79,7 @@ fn rest(output: &impl Print, what: What, ring: &[Entry], roster: Roster) -> io::
 }
 
 // Prints what an event left.
+// Stays (5): the slices are parts of `Buffers`, cut to the lengths that are lent.
 pub(crate) fn line(
     output: &impl Print,
     what: What,

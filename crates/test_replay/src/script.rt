@@ -3,8 +3,8 @@
 use std::io;
 
 // What was read of a line: its name; or of a step the word's first letter; the index too; or the number for an index.
+// Stays (7): each letter has one arm, where what it stands for is written; an enum between would list them twice.
 #[derive(Clone, Copy)]
-// Stays (7): a word is known by its first letter, which is matched once, where it writes.
 pub enum Step {
     Name,
     Word(Option<u8>),
