@@ -5,15 +5,14 @@ use Rattle.hash.specs.Hash.{F}
 use Rattle.roster.specs.declared.Roster.{Roster}
 use Rattle.roster.specs.Roster.{sound, held_servers, working_set}
 use Rattle.event.specs.declared.Event.{Event}
-use Rattle.event.specs.Event.{Request, refused_by, request_by, request_of, packet_kind, end_kind}
+use Rattle.event.specs.Event.{Request, refused_by, request_by, packet_kind, end_kind}
 use Rattle.settings.specs.Settings.{by_ring}
 use Rattle.table.specs.Table.{Finding, find, finding_of}
 use Rattle.ring.specs.declared.Entry.{Entry}
 use Rattle.ring.specs.Ring.{overlaid}
 use Rattle.ringplan.specs.Plan.{planned}
 use Rattle.engine.specs.declared.Lookup.{Lookup}
-use Rattle.rules.specs.declared.Refusal.{Refusal}
-use Rattle.rules.specs.Answer.{number_of}
+use Rattle.rules.specs.declared.RefusedBy.{RefusedBy}
 use Rattle.rules.specs.Rules.{State, Change, is, lent_bar, admitted, judged, pick_by}
 
 -- the event, the key's record, F of the key, how many ring entries are to be searched, and whether what is lent has its lengths (9)
@@ -24,8 +23,13 @@ pub record LookupFacts : Type 0 where
   pub places : ℕ
   pub sized : Bool
 
+-- what a look has of the event: it, or a number that refuses it, in the document's numbers
+abbrev pub asked_in : Result Event RefusedBy → Request
+asked_in (Ok e) = request_by e
+asked_in (Err r) = refused_by r.number
+
 abbrev pub lookup_facts : Lookup → LookupFacts
-lookup_facts s = record { request = request_of s.event; found = finding_of s.found; f = s.f; places = s.places; sized = s.sized }
+lookup_facts s = record { request = asked_in s.event; found = finding_of s.found; f = s.f; places = s.places; sized = s.sized }
 
 abbrev pub nothing_found : Finding
 nothing_found = record { found = false; reads = 0 }
@@ -56,15 +60,19 @@ key_asked e = cond (is packet_kind e) (Some e.key) (cond (is end_kind e) (Some e
 unfoldable pub admitted_so_far : Bool → Bool → Request → Request
 admitted_so_far sized roster_sound e = admitted (lent_bar sized (cond (is packet_kind e) true roster_sound)) e
 
--- an event that is admitted, or the refusal, in the document's numbers
-abbrev pub asked_by : Result Event Refusal → Request
-asked_by (Ok e) = request_by e
-asked_by (Err e) = refused_by (number_of e)
+-- an event that was admitted so far: only a packet's 11 is still to be tested
+abbrev pub settle_of : Request → Lookup → Entry → State → Change
+settle_of e l spot st =
+    judged
+    (cond (is packet_kind e) (admitted (lent_bar true (sound st.roster)) e) e)
+    (finding_of l.found)
+    (pick_by l.f spot st)
+    st
 
 -- a reaction to what a look found and to the ring's entry read: the event admitted (refusals 9 and 11) and judged
 abbrev pub react_of : Lookup → Entry → State → Change
 react_of l spot st =
-    judged (admitted (lent_bar l.sized (sound st.roster)) (request_of l.event)) (finding_of l.found) (pick_by l.f spot st) st
+    judged (admitted (lent_bar l.sized (sound st.roster)) (asked_in l.event)) (finding_of l.found) (pick_by l.f spot st) st
 
 -- the ring drawn anew for a roster, where that is wanted
 unfoldable pub redrawn : Bool → Roster → List Entry → List Entry

@@ -7,28 +7,28 @@
 mod looking;
 
 ghost use Rattle.std.specs.Prelude.{◌≡◌, length, List, ℕ};
-ghost use Rattle.event.specs.Event.{request_of, event_in};
+ghost use Rattle.event.specs.Event.{request_by, event_in};
 ghost use Rattle.roster.specs.Roster.{sound as sound_of, held_servers, working_set};
 ghost use Rattle.rows.specs.Lent.{rows_in, SameLists};
 ghost use Rattle.ringplan.specs.Plan.{planned};
 ghost use Rattle.rules.specs.Rules.{world_with, StartPromise, sizes_right};
-ghost use Rattle.engine.specs.Looking.{look_of, lookup_facts, admitted_so_far, asked_by, react_of};
+ghost use Rattle.engine.specs.Looking.{look_of, lookup_facts, admitted_so_far, asked_in, settle_of, react_of};
 ghost use Rattle.answers.specs.Reacting.{state_over, reacted, settled};
 
 use answers::{Done, Facts, Reaction};
-use event::{Event, Fault};
+use event::Event;
 use packets::Asked;
 use ring::Entry;
 use roster::Roster;
 use rows::RowTable;
-use rules::{Outcome, Refusal};
+use rules::{Outcome, Refusal, RefusedBy};
 use table::Found;
 
 // What a look at an event record finds before the ring is read.
 // Stays (1): an Option of places is no plainer: of 0 places `ring::read` gives an entry, which nobody looks at.
 #[derive(Clone, Copy)]
 pub struct Lookup {
-    pub event: Result<Event, Fault>,
+    pub event: Result<Event, RefusedBy>,
     pub found: Found,
     pub f: u32,
     pub places: usize,
@@ -48,7 +48,7 @@ pub fn look(
         ≡ look_of (sizes_right (length table.now) rows flags ring) (event_in bytes.now) table.now roster }
 {
     let sized = looking::sizes_right(table.len(), rows, flags, ring);
-    looking::seek(event::read(bytes), table, sized, roster)
+    looking::seek(looking::read(bytes), table, sized, roster)
 }
 
 // Does what the event asks to table, rows and flags, or refuses it; `spot` is the ring's entry that was read for it.
@@ -63,7 +63,17 @@ pub fn react(
     ensures done { reacted result table.new (rows_in rows.new)
         ≡ react_of seen spot (state_over table.old (rows_in rows.old) roster) }
 {
-    match settle(seen, spot, table, rows, &mut roster) {
+    let event = match admit(seen.event, seen.sized, &roster) {
+        Ok(event) => event,
+        Err(refused) => {
+            return Reaction {
+                reply: refused.into(),
+                roster,
+                redraw: false,
+            };
+        }
+    };
+    match settle(event, seen, spot, table, rows, &mut roster) {
         Ok(done) => Reaction {
             reply: done.facts.into(),
             roster,
@@ -77,8 +87,9 @@ pub fn react(
     }
 }
 
-// What the event comes to, or why it is refused: then nothing has changed.
+// What an event comes to, or why it is refused: then nothing has changed.
 fn settle(
+    event: Event,
     seen: Lookup,
     spot: Entry,
     table: &mut [u8],
@@ -87,9 +98,9 @@ fn settle(
 ) -> Result<Done, Refusal>
     ensures same { SameLists rows.old rows.new }
     ensures done { settled result table.new (rows_in rows.new) roster.new
-        ≡ react_of seen spot (state_over table.old (rows_in rows.old) roster.old) }
+        ≡ settle_of (request_by event) seen spot (state_over table.old (rows_in rows.old) roster.old) }
 {
-    match admit(seen.event, seen.sized, roster)? {
+    match event {
         Event::Packet(key) => {
             let asked = Asked {
                 key,
@@ -97,7 +108,7 @@ fn settle(
                 f: seen.f,
                 spot,
             };
-            let facts = packets::packet(asked, table, rows, roster)?;
+            let facts = packets::packet(asked, table, rows.view(), roster)?;
             Ok(Done {
                 facts,
                 redraw: false,
@@ -115,18 +126,18 @@ fn settle(
     }
 }
 
-// The event, unless what is lent or what is wrong with its record refuses it. A packet's roster is tested in `packets::packet`, where its
+// The event, unless what is lent or the number beside it refuses it. A packet's roster is tested in `packets::packet`, where its
 // lists are lent.
-fn admit(event: Result<Event, Fault>, sized: bool, roster: &Roster) -> Result<Event, Refusal>
-    ensures { asked_by result ≡ admitted_so_far sized (sound_of roster.now) (request_of event) }
+fn admit(event: Result<Event, RefusedBy>, sized: bool, roster: &Roster) -> Result<Event, RefusedBy>
+    ensures { asked_in result ≡ admitted_so_far sized (sound_of roster.now) (asked_in event) }
 {
     if !sized {
-        return Err(Refusal::WrongLengths);
+        return Err(Refusal::WrongLengths.into());
     }
     if !looking::is_packet(event) && !roster::sound(*roster) {
-        return Err(Refusal::UnsoundRoster);
+        return Err(Refusal::UnsoundRoster.into());
     }
-    Ok(event?)
+    event
 }
 
 // Starts on a lent table: refused only by 9, else the table is zeroed and the roster is empty.

@@ -1,14 +1,15 @@
 // What can be told of an event record before the ring is read.
 ghost use Rattle.std.specs.Prelude.{◌≡◌, cond, not, false, eqb};
-ghost use Rattle.event.specs.Event.{request_of, packet_kind};
+ghost use Rattle.event.specs.Event.{event_in, packet_kind};
 ghost use Rattle.rules.specs.Rules.{sizes_right, is};
 ghost use Rattle.settings.specs.Settings.{by_ring};
 ghost use Rattle.table.specs.Table.{finding_of};
-ghost use Rattle.engine.specs.Looking.{look_of, lookup_facts, key_asked};
+ghost use Rattle.engine.specs.Looking.{asked_in, look_of, lookup_facts, key_asked};
 
 use crate::Lookup;
-use event::{Event, Fault};
+use event::Event;
 use roster::Roster;
+use rules::RefusedBy;
 use table::Found;
 
 // Whether every lent buffer has its length: refusal 9.
@@ -24,10 +25,22 @@ pub(crate) fn sizes_right(table: usize, rows: usize, flags: usize, ring: usize) 
         && ring == ring::RING_PLACES
 }
 
+// The event that a record is, or the number that refuses it.
+pub(crate) fn read(bytes: &[u8]) -> Result<Event, RefusedBy>
+    ensures { asked_in result ≡ event_in bytes.now }
+{
+    Ok(event::read(bytes)?)
+}
+
 // Looks for the key's record, where the event has a key; for a packet without one also F of the key,
 // and how many ring entries are to be searched. The table is searched in this one place.
-pub(crate) fn seek(event: Result<Event, Fault>, table: &[u8], sized: bool, roster: Roster) -> Lookup
-    ensures { lookup_facts result ≡ look_of sized (request_of event) table.now roster }
+pub(crate) fn seek(
+    event: Result<Event, RefusedBy>,
+    table: &[u8],
+    sized: bool,
+    roster: Roster,
+) -> Lookup
+    ensures { lookup_facts result ≡ look_of sized (asked_in event) table.now roster }
 {
     let nothing = Lookup {
         event,
@@ -52,8 +65,8 @@ pub(crate) fn seek(event: Result<Event, Fault>, table: &[u8], sized: bool, roste
 }
 
 // The key of a packet or an end.
-fn key_of(event: Result<Event, Fault>) -> Option<[u8; table::KEY_BYTES]>
-    ensures { result ≡ key_asked (request_of event) }
+fn key_of(event: Result<Event, RefusedBy>) -> Option<[u8; table::KEY_BYTES]>
+    ensures { result ≡ key_asked (asked_in event) }
 {
     match event {
         Ok(Event::Packet(key)) => Some(key),
@@ -63,15 +76,15 @@ fn key_of(event: Result<Event, Fault>) -> Option<[u8; table::KEY_BYTES]>
 }
 
 // Whether it is a packet whose key has no record.
-fn unrecorded(event: Result<Event, Fault>, found: Found) -> bool
-    ensures { result ≡ cond (is packet_kind (request_of event)) (not (finding_of found).found) false }
+fn unrecorded(event: Result<Event, RefusedBy>, found: Found) -> bool
+    ensures { result ≡ cond (is packet_kind (asked_in event)) (not (finding_of found).found) false }
 {
     is_packet(event) && matches!(found, Found::Nothing(_))
 }
 
 // Whether a packet is asked for.
-pub(crate) fn is_packet(event: Result<Event, Fault>) -> bool
-    ensures { result ≡ is packet_kind (request_of event) }
+pub(crate) fn is_packet(event: Result<Event, RefusedBy>) -> bool
+    ensures { result ≡ is packet_kind (asked_in event) }
 {
     matches!(event, Ok(Event::Packet(_)))
 }

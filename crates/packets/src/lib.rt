@@ -6,7 +6,7 @@ ghost use Rattle.std.specs.Prelude.{◌≡◌, true, cond, List, ℕ, eqb};
 ghost use Rattle.sets.specs.Sets.{in_state, working};
 ghost use Rattle.settings.specs.Settings.{by_row_table};
 ghost use Rattle.rows.specs.Rows.{Rows, row_read};
-ghost use Rattle.rows.specs.Lent.{rows_in};
+ghost use Rattle.rows.specs.Lent.{rows_seen};
 ghost use Rattle.ring.specs.Ring.{gives};
 ghost use Rattle.event.specs.Event.{asks_key};
 ghost use Rattle.table.specs.Table.{Finding, finding_of};
@@ -21,7 +21,7 @@ use lists::Movers;
 use ranking::Pick;
 use ring::Entry;
 use roster::Roster;
-use rows::RowTable;
+use rows::RowView;
 use rules::Refusal;
 use settings::Settings;
 use table::Found;
@@ -36,9 +36,9 @@ pub struct Asked {
 }
 
 // A packet: refused where the roster hasn't its stated form.
-pub fn packet(asked: Asked, table: &mut [u8], rows: &RowTable, r: &Roster) -> Result<Facts, Refusal>
-    ensures { replied result table.new (rows_in rows.now) r.now
-        ≡ packet_of asked.key asked.found asked.f asked.spot (state_over table.old (rows_in rows.now) r.now) }
+pub fn packet(asked: Asked, table: &mut [u8], rows: RowView, r: &Roster) -> Result<Facts, Refusal>
+    ensures { replied result table.new (rows_seen rows.entry) r.now
+        ≡ packet_of asked.key asked.found asked.f asked.spot (state_over table.old (rows_seen rows.entry) r.now) }
 {
     if !roster::parts::sound(r.places(), r.held, r.settings) {
         return Err(Refusal::UnsoundRoster);
@@ -51,13 +51,13 @@ pub fn packet(asked: Asked, table: &mut [u8], rows: &RowTable, r: &Roster) -> Re
 fn lead(
     asked: Asked,
     table: &mut [u8],
-    rows: &RowTable,
+    rows: RowView,
     movers: Movers,
     settings: Settings,
 ) -> Result<Facts, Refusal>
     ensures { (r : Roster) → Lent r movers.entry.servers.now movers.entry.states.now → r.settings ≡ settings
-        → replied result table.new (rows_in rows.now) r
-        ≡ led_of asked.key asked.found asked.f asked.spot (state_over table.old (rows_in rows.now) r) }
+        → replied result table.new (rows_seen rows.entry) r
+        ≡ led_of asked.key asked.found asked.f asked.spot (state_over table.old (rows_seen rows.entry) r) }
 {
     match asked.found {
         Found::At(place) => known(place, table, movers),
@@ -79,9 +79,9 @@ fn lead(
 }
 
 // What methods 2 and 3 read: the row, or the ring's entry.
-fn read_pick(f: u32, spot: Entry, rows: &RowTable, settings: Settings) -> Pick
+fn read_pick(f: u32, spot: Entry, rows: RowView, settings: Settings) -> Pick
     ensures { result ≡ cond (eqb settings.method by_row_table)
-        (row_read settings.rows f (rows_in rows.now)) (gives spot) }
+        (row_read settings.rows f (rows_seen rows.entry)) (gives spot) }
 {
     if settings.method == settings::ROW_TABLE {
         return rows.read(settings.rows, f);

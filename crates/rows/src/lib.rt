@@ -6,7 +6,7 @@
 ghost use Rattle.std.specs.Prelude.{◌≡◌, min};
 ghost use Rattle.sets.specs.Sets.{in_state, working, standby};
 ghost use Rattle.rows.specs.Rows.{filled, cleared, row_read};
-ghost use Rattle.rows.specs.Lent.{rows_in, SameLists};
+ghost use Rattle.rows.specs.Lent.{rows_in, rows_seen, SameLists};
 
 use lists::Movers;
 use ranking::Pick;
@@ -19,6 +19,13 @@ pub const ROW_PLACES: usize = 4096;
 pub struct RowTable<'a> {
     pub servers: &'a mut [u32],
     pub flags: &'a mut [u8],
+}
+
+// Rows that are lent to be read alone.
+#[derive(Clone, Copy)]
+pub struct RowView<'a> {
+    pub servers: &'a [u32],
+    pub flags: &'a [u8],
 }
 
 impl RowTable<'_> {
@@ -72,10 +79,30 @@ impl RowTable<'_> {
         flags[..n].fill(0);
     }
 
-    // What a key reads, whose F is f: the server and the flag of its row.
-    #[tactic(auto, unfolding(crate::specs::Rows::row_read))]
+    // The rows, to be read alone.
+    pub fn view(&self) -> RowView<'_>
+        ensures servers { result.servers.now ≡ self.now.servers.now }
+        ensures flags { result.flags.now ≡ self.now.flags.now }
+    {
+        RowView {
+            servers: &*self.servers,
+            flags: &*self.flags,
+        }
+    }
+
+    // What a key reads, whose F is f.
     pub fn read(&self, count: u16, f: u32) -> Pick
         ensures { result ≡ row_read count f (rows_in self.now) }
+    {
+        self.view().read(count, f)
+    }
+}
+
+impl RowView<'_> {
+    // What a key reads, whose F is f: the server and the flag of its row.
+    #[tactic(auto, unfolding(crate::specs::Rows::row_read))]
+    pub fn read(self, count: u16, f: u32) -> Pick
+        ensures { result ≡ row_read count f (rows_seen self.entry) }
     {
         if count == 0 {
             return Pick {

@@ -87,6 +87,31 @@ impl From<Fault> for Refusal {
     }
 }
 
+// A refusal by its number alone. What the engine is handed may be refused by a number that has no line in the table.
+// Stays (1): only a number holds every number.
+#[derive(Clone, Copy, PartialEq, Eq, Debug)]
+pub struct RefusedBy {
+    pub number: u8,
+}
+
+impl From<Refusal> for RefusedBy {
+    ghost from_gives = { λ refusal refused. refused.number ≡ number_of refusal };
+
+    fn from(refusal: Refusal) -> RefusedBy {
+        RefusedBy {
+            number: refusal.into(),
+        }
+    }
+}
+
+impl From<Fault> for RefusedBy {
+    ghost from_gives = { λ fault refused. refused.number ≡ fault_number fault };
+
+    fn from(fault: Fault) -> RefusedBy {
+        Refusal::from(fault).into()
+    }
+}
+
 // The answer: the accepted facts or a refusal number.
 // Stays (1): document 01 names this form, "accepted with server, mark and reads, or refused with its number"; programs print the numbers.
 #[derive(Clone, Copy)]
@@ -101,6 +126,14 @@ impl From<Refusal> for Reply {
 
     fn from(refusal: Refusal) -> Reply {
         Reply::Refused(refusal.into())
+    }
+}
+
+impl From<RefusedBy> for Reply {
+    ghost from_gives = { λ refused reply. reply ≡ Refused refused.number };
+
+    fn from(refused: RefusedBy) -> Reply {
+        Reply::Refused(refused.number)
     }
 }
 

@@ -1,39 +1,32 @@
 -- `engine::admit` meets its contract.
 use mathlib.Core.Bool.{true, cond}
-use mathlib.Core.Path.{◌≡◌, sym, ap, ◌∙◌}
-use Rattle.std.proofs.lemmas.Result.{err_from_is_err_and}
+use mathlib.Core.Path.{◌≡◌, sym, ◌∙◌}
 use Rattle.roster.specs.Roster.{sound}
-use Rattle.event.specs.Event.{request_of}
 use Rattle.rules.specs.Rules.{is, lent_bar, admitted}
-use Rattle.engine.specs.Looking.{admitted_so_far}
+use Rattle.engine.specs.Looking.{asked_in, admitted_so_far}
 use Rattle.engine.proofs.Admitting.{passed, either}
 use Rattle.engine.proofs.admit.Goals.{else-not-is_packet-via-then-not-is_packet+else-not-sound, else-not-is_packet-via-else-not-is_packet}
 use Rattle.engine.proofs.admit.Goals as goal
 
 pub returns-then-not-sized : goal.returns-then-not-sized
 unfolding admitted_so_far lent_bar admitted
-returns-then-not-sized c = rw c.if-not-sized.true
+returns-then-not-sized c = rw (c.if-not-sized.true, c.into.ensures)
 
 pub returns-then-not-sound : goal.returns-then-not-sound
 unfolding admitted_so_far lent_bar admitted
 returns-then-not-sound c =
-    rw (c.if-not-sized.false, sym c.is_packet.ensures ∙ c.if-not-is_packet.true, sym c.sound.ensures ∙ c.if-not-sound.true)
-
-pub returns-in_err-event : goal.returns-in_err-event
-returns-in_err-event c =
-    let p = c.args in
-    let o : cond (is 1 (request_of p.event)) true (sound p.roster.now) ≡ true = elim c.else-not-is_packet.branch [
-      | else-not-is_packet-via-then-not-is_packet+else-not-sound w ↦ either _ _ (sym w.sound.ensures ∙ w.if-not-sound.false)
-      | else-not-is_packet-via-else-not-is_packet w ↦ rw (sym c.is_packet.ensures ∙ w.if-not-is_packet.false)
-    ] in
-    let e = err_from_is_err_and c.from_residual.result c.from_residual.ensures.1 in
-    rw (e.1, e.2) (ap request_of (sym c.in_err-event.was) ∙ passed p.sized (sound p.roster.now) (request_of p.event) c.if-not-sized.false o)
+    rw (
+      c.if-not-sized.false,
+      sym c.is_packet.ensures ∙ c.if-not-is_packet.true,
+      sym c.sound.ensures ∙ c.if-not-sound.true,
+      c.into-then-not-sound.ensures,
+    )
 
 pub returns : goal.returns
 returns c =
     let p = c.args in
-    let o : cond (is 1 (request_of p.event)) true (sound p.roster.now) ≡ true = elim c.else-not-is_packet.branch [
+    let o : cond (is 1 (asked_in p.event)) true (sound p.roster.now) ≡ true = elim c.else-not-is_packet.branch [
       | else-not-is_packet-via-then-not-is_packet+else-not-sound w ↦ either _ _ (sym w.sound.ensures ∙ w.if-not-sound.false)
       | else-not-is_packet-via-else-not-is_packet w ↦ rw (sym c.is_packet.ensures ∙ w.if-not-is_packet.false)
     ] in
-    ap request_of (sym c.in_ok-event.was) ∙ passed p.sized (sound p.roster.now) (request_of p.event) c.if-not-sized.false o
+    passed p.sized (sound p.roster.now) (asked_in p.event) c.if-not-sized.false o

@@ -11,7 +11,7 @@ returns-then-not-sound c =
     let states : length p.r.now.states ≡ 64 = search rules in
     -- what the test of the parts says of the roster
     let tested : c.sound.result ≡ sound p.r.now = rw (c.places.ensures.0, c.places.ensures.1) at c.sound.ensures ∙ lent-sound p.r.now servers states in
-    packet_11 p.asked.key p.table.now p.rows.now.servers.now p.rows.now.flags.now _ p.r.now _ (sym tested ∙ c.if-not-sound.true)
+    packet_11 p.asked.key p.table.now p.rows.servers.now p.rows.flags.now _ p.r.now _ (sym tested ∙ c.if-not-sound.true)
 
 pub returns : goal.returns
 returns c =
@@ -21,4 +21,4 @@ returns c =
     let tested : c.sound.result ≡ sound p.r.now = rw (c.places.ensures.0, c.places.ensures.1) at c.sound.ensures ∙ lent-sound p.r.now servers states in
     let passed : sound p.r.now ≡ true = sym tested ∙ c.if-not-sound.false in
     c.lead.ensures p.r.now (record { sound = passed; servers = sym c.movers.ensures.0; states = sym c.movers.ensures.1 }) refl
-    ∙ packet-admitted p.asked.key p.table.now p.rows.now.servers.now p.rows.now.flags.now _ p.r.now _ passed
+    ∙ packet-admitted p.asked.key p.table.now p.rows.servers.now p.rows.flags.now _ p.r.now _ passed

@@ -1,19 +1,19 @@
 -- `engine::looking::seek` meets its contract.
 use mathlib.Core.Path.{sym, ◌∙◌}
-use Rattle.event.specs.Event.{request_of}
 use Rattle.table.specs.Table.{finding_of}
+use Rattle.engine.specs.Looking.{asked_in}
 use Rattle.engine.proofs.OfLooking.{look_nothing, look_found, look_open}
 use Rattle.engine.proofs.looking.seek.Goals as goal
 
 pub returns-in_default : goal.returns-in_default
 returns-in_default c =
     let p = c.args in
-    look_nothing (request_of p.event) p.table.now p.sized p.roster (λ k q. c.in_default.not-Some k (c.key_of.ensures ∙ q))
+    look_nothing (asked_in p.event) p.table.now p.sized p.roster (λ k q. c.in_default.not-Some k (c.key_of.ensures ∙ q))
 
 pub returns-then-not-unrecorded : goal.returns-then-not-unrecorded
 returns-then-not-unrecorded c =
     let p = c.args in
-    look_found (request_of p.event) p.table.now p.sized p.roster (finding_of c.find-found.result) c.in-Some.key
+    look_found (asked_in p.event) p.table.now p.sized p.roster (finding_of c.find-found.result) c.in-Some.key
     (sym c.in-Some.is ∙ c.key_of.ensures)
     c.find-found.ensures
     (sym c.unrecorded.ensures ∙ c.if-not-unrecorded.true)
@@ -21,7 +21,7 @@ returns-then-not-unrecorded c =
 pub returns : goal.returns
 returns c =
     let p = c.args in
-    look_open (request_of p.event) p.table.now p.sized p.roster (finding_of c.find-found.result) c.in-Some.key _ _
+    look_open (asked_in p.event) p.table.now p.sized p.roster (finding_of c.find-found.result) c.in-Some.key _ _
     (sym c.in-Some.is ∙ c.key_of.ensures)
     c.find-found.ensures
     (sym c.unrecorded.ensures ∙ c.if-not-unrecorded.false)
