@@ -1,2 +1,3 @@
 pub mod ByKind
 pub mod Unique
+pub mod AnyKey
