@@ -6,11 +6,13 @@ use Rattle.pcap.specs.Captures.{Said, Event, Skipped, Finished, Refused}
 use Rattle.pcap.proofs.Answered.{refusal_by, number_back}
 use Rattle.pieces.specs.declared.Stop.{Stop}
 use Rattle.pieces.specs.declared.Stop.TheVariants.{Full as full-stop, Finished as end-stop, Refused as refusal-stop}
+use Rattle.pieces.specs.declared.LastSaid.{LastSaid}
+use Rattle.pieces.specs.declared.LastSaid.TheVariants.{Event as last-event, Skipped as last-skipped, Finished as last-finished, Refused as last-refused}
 use Rattle.pieces.specs.declared.Filled.{Filled as Put}
 use Rattle.pieces.specs.declared.Stream.{Stream as Coming}
 use Rattle.pieces.specs.declared.Advanced.{Advanced as Onward}
 use Rattle.pieces.specs.declared.Ending.{Ending as Refused-at}
-use Rattle.pieces.specs.Pieces.{Filled, stop_said, filled_of}
+use Rattle.pieces.specs.Pieces.{Filled, stop_said, last_of, filled_of}
 use Rattle.pieces.specs.Streams.{Stream, Advanced, Ending, stream_of, advanced_of, ending_of}
 
 abbrev stop_by : Said → Stop
@@ -33,12 +35,27 @@ put_back x = ap (λ (s : Stop). record { stop = s; at = x.at; tally = x.tally; f
 pub filled_one : (x y : Put) → filled_of x ≡ filled_of y → x ≡ y
 filled_one x y e = sym (put_back x) ∙ ap put_by e ∙ put_back y
 
+abbrev last_by : Said → LastSaid
+last_by Event = last-event
+last_by (Skipped why) = last-skipped why
+last_by Finished = last-finished
+last_by (Refused n) = last-refused n
+
+last_back : (x : LastSaid) → last_by (last_of x) ≡ x
+last_back last-event = refl
+last_back (last-skipped why) = refl
+last_back last-finished = refl
+last_back (last-refused n) = refl
+
+pub last_one : (x y : LastSaid) → last_of x ≡ last_of y → x ≡ y
+last_one x y e = sym (last_back x) ∙ ap last_by e ∙ last_back y
+
 abbrev stream_by : Stream → Coming
-stream_by s = record { have = s.have; pass = s.pass; longer = s.longer; before = s.before; tally = s.tally; stop = stop_by s.said }
+stream_by s = record { have = s.have; pass = s.pass; longer = s.longer; before = s.before; tally = s.tally; said = last_by s.said }
 
 stream_back : (x : Coming) → stream_by (stream_of x) ≡ x
 stream_back x =
-    ap (λ (s : Stop). record { have = x.have; pass = x.pass; longer = x.longer; before = x.before; tally = x.tally; stop = s }) (stop_back x.stop)
+    ap (λ (s : LastSaid). record { have = x.have; pass = x.pass; longer = x.longer; before = x.before; tally = x.tally; said = s }) (last_back x.said)
 
 pub stream_one : (x y : Coming) → stream_of x ≡ stream_of y → x ≡ y
 stream_one x y e = sym (stream_back x) ∙ ap stream_by e ∙ stream_back y

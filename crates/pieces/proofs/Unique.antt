@@ -5,11 +5,16 @@ use Rattle.pieces.specs.declared.Kept.{Kept}
 use Rattle.pieces.specs.declared.Stream.{Stream}
 use Rattle.pieces.specs.declared.Advanced.{Advanced}
 use Rattle.pieces.specs.declared.Ending.{Ending}
-use Rattle.pieces.proofs.Stops.{stream_one, advanced_one, ending_one}
+use Rattle.pieces.specs.declared.LastSaid.{LastSaid}
+use Rattle.pieces.proofs.Stops.{last_one, stream_one, advanced_one, ending_one}
+use Rattle.pieces.proofs.LastSaidFromStop.from.Reads.{Learnt as last-promise}
 use Rattle.pieces.proofs.feed.begin.Reads.{Learnt as begin-promise}
 use Rattle.pieces.proofs.feed.advance.Reads.{Learnt as advance-promise}
 use Rattle.pieces.proofs.feed.end.Reads.{Learnt as end-promise}
 use Rattle.pieces.proofs.keep.settle.Reads.{Learnt as settle-promise}
+
+pub last-said_unique : (κs : _) (a : _) (x y : LastSaid) (e e' : _) → last-promise κs a x e → last-promise κs a y e' → x ≡ y
+last-said_unique κs a x y e e' p q = last_one x y (p ∙ sym q)
 
 pub begin_unique : (κs : _) (a : _) (x y : Stream) (e e' : _) → begin-promise κs a x e → begin-promise κs a y e' → x ≡ y
 begin_unique κs a x y e e' p q = stream_one x y (p ∙ sym q)

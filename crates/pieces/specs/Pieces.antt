@@ -7,6 +7,8 @@ use Rattle.pcap.specs.declared.Tally.{Tally}
 use Rattle.pcap.specs.Captures.{Said, Event, Skipped, Finished, Refused, number_of, low_first, captured, record_size, header_bytes, record_bytes, step_at}
 use Rattle.pieces.specs.declared.Stop.{Stop}
 use Rattle.pieces.specs.declared.Stop.TheVariants.{Full as full-stop, Finished as end-stop, Refused as refusal-stop}
+use Rattle.pieces.specs.declared.LastSaid.{LastSaid}
+use Rattle.pieces.specs.declared.LastSaid.TheVariants.{Event as last-event, Skipped as last-skipped, Finished as last-finished, Refused as last-refused}
 use Rattle.pieces.specs.declared.Kept.{Kept}
 use Rattle.pieces.specs.declared.Filled.{Filled as Put}
 
@@ -118,6 +120,12 @@ abbrev pub stop_said : Stop → Said
 stop_said full-stop = Event
 stop_said end-stop = Finished
 stop_said (refusal-stop r) = Refused (number_of r)
+
+abbrev pub last_of : LastSaid → Said
+last_of last-event = Event
+last_of (last-skipped why) = Skipped why
+last_of last-finished = Finished
+last_of (last-refused n) = Refused n
 
 abbrev pub filled_of : Put → Filled
 filled_of d = record { said = stop_said d.stop; at = d.at; tally = d.tally; filled = d.filled }

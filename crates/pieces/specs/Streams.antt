@@ -7,7 +7,7 @@ use Rattle.pieces.specs.declared.Stream.{Stream as Coming}
 use Rattle.pieces.specs.declared.Advanced.{Advanced as Onward}
 use Rattle.pieces.specs.declared.Ending.{Ending as Refused-at}
 use Rattle.pieces.specs.declared.Kept.{Kept}
-use Rattle.pieces.specs.Pieces.{Ran, read_on, enough, room_for, filled_by, written, settled_buffer, settled_kept, stop_said}
+use Rattle.pieces.specs.Pieces.{Ran, read_on, enough, room_for, filled_by, written, settled_buffer, settled_kept, last_of}
 
 -- a capture of which pieces have come: the window, what is passed over, what is done, and what the reader said last; then how many bytes of
 -- event records stand in the second buffer
@@ -120,7 +120,7 @@ ending b s =
 -- document 01: "If an answer is an enum, a definition gives this paper's number and values for each of its cases."
 abbrev pub stream_of : Coming → Stream
 stream_of s =
-    record { have = s.have; pass = s.pass; longer = s.longer; before = s.before; tally = s.tally; said = stop_said s.stop }
+    record { have = s.have; pass = s.pass; longer = s.longer; before = s.before; tally = s.tally; said = last_of s.said }
 
 abbrev pub advanced_of : Onward → Advanced
 advanced_of a = record { stream = stream_of a.stream; filled = a.filled }

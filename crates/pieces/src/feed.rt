@@ -4,7 +4,7 @@ ghost use Rattle.std.specs.Prelude.{◌≡◌, ◌+◌, ◌%◌, ◌^◌, ◌≤
 ghost use Rattle.pcap.specs.Captures.{header_bytes, short_record, number_of};
 ghost use Rattle.pieces.specs.Streams.{beginning, stream_of, advanced_of, ending_of, taken, passed_by, window_done, passed_over, ending};
 
-use crate::{Advanced, Ending, Stop, Stream, fill, keep};
+use crate::{Advanced, Ending, LastSaid, Stream, fill, keep};
 use pcap::{HEADER_BYTES, Refusal};
 
 // A capture of which nothing has come.
@@ -17,13 +17,13 @@ pub fn begin() -> Stream
         longer: 0,
         before: 0,
         tally: pcap::nothing(),
-        stop: Stop::Finished,
+        said: LastSaid::Finished,
     }
 }
 
 // Takes in a piece of `got` bytes that stands behind the window: it belongs to the packet that is passed over, or the window
 // grows by it. Then the window is read into `out`, and what isn't done of it is kept. A second buffer twice as long as the
-// first has room for all events of a window; where there was less, the stream says `Full`, and the others come with the next
+// first has room for all events of a window; where there was less, the stream says `Event`, and the others come with the next
 // piece. A piece that doesn't fit behind the window, or goes beyond the packet that is passed over, isn't taken: nothing
 // changes.
 #[tactic(auto, unfolding(crate::specs::Streams::taken))]
@@ -86,6 +86,7 @@ fn passed_over(stream: Stream) -> Stream
 }
 
 // Reads the window, and keeps what isn't done.
+#[inline]
 fn window(buffer: &mut [u8], out: &mut [u8], stream: Stream) -> Advanced
     requires { stream.have ≤ length buffer.old }
     ensures value { advanced_of result ≡ (window_done buffer.old out.old (stream_of stream)).answer }
@@ -102,7 +103,7 @@ fn window(buffer: &mut [u8], out: &mut [u8], stream: Stream) -> Advanced
             longer: kept.longer,
             before: stream.before.wrapping_add(records as u64),
             tally: done.tally,
-            stop: done.stop,
+            said: done.stop.into(),
         },
         filled: done.filled,
     }

@@ -3,6 +3,9 @@
 
 #![tactic(auto)]
 
+ghost use Rattle.std.specs.Prelude.{◌≡◌};
+ghost use Rattle.pieces.specs.Pieces.{stop_said, last_of};
+
 mod feed;
 mod fill;
 mod keep;
@@ -18,6 +21,29 @@ pub enum Stop {
     Full,
     Finished,
     Refused(Refusal),
+}
+
+// What a stream says came last, in the request's numbers: why the reader stopped; or what no reader stops at, since a stream may be anyone's.
+// Stays (1): only numbers hold every reason and every refusal that a stream may be lent with.
+#[derive(Clone, Copy, PartialEq, Eq, Debug)]
+pub enum LastSaid {
+    Event,
+    Skipped(u8),
+    Finished,
+    Refused(u8),
+}
+
+// Why a reader stopped: it says `Event` where there is no room for another.
+impl From<Stop> for LastSaid {
+    ghost from_gives = { λ stop said. last_of said ≡ stop_said stop };
+
+    fn from(stop: Stop) -> LastSaid {
+        match stop {
+            Stop::Full => LastSaid::Event,
+            Stop::Finished => LastSaid::Finished,
+            Stop::Refused(refusal) => LastSaid::Refused(refusal.number()),
+        }
+    }
 }
 
 // Stays (6): the buffer is the caller's (fixed memory) and has room behind what stands in it, so structs keep how many bytes do.
@@ -40,7 +66,7 @@ pub struct Kept {
 }
 
 // A capture of which pieces have come. The buffer's first `have` bytes are the window; `tally` is what was given so far, and
-// `stop` why the reader stopped last. While a packet that is too long for the buffer comes in, the next `pass` bytes of the
+// `said` what was said last. While a packet that is too long for the buffer comes in, the next `pass` bytes of the
 // capture belong to it, and it is `longer` there than in the window. `before` bytes of packet records are done.
 #[derive(Clone, Copy, PartialEq, Eq, Debug)]
 pub struct Stream {
@@ -49,7 +75,7 @@ pub struct Stream {
     pub longer: usize,
     pub before: u64,
     pub tally: Tally,
-    pub stop: Stop,
+    pub said: LastSaid,
 }
 
 // A stream after a piece was taken in, and how many bytes of event records stand in the second buffer.

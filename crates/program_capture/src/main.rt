@@ -8,7 +8,7 @@
 mod report;
 
 use pcap::Refusal;
-use pieces::{Stop, Stream};
+use pieces::{LastSaid, Stream};
 use std::io;
 use std::io::{ErrorKind, Read};
 use std::process::ExitCode;
@@ -42,7 +42,7 @@ fn run(
         let more = pieces::advance(buffer, out, *stream, got);
         *stream = more.stream;
         write(output, out, more.filled)?;
-        if !may_go_on(stream.stop) {
+        if !may_go_on(stream.said) {
             break;
         }
     }
@@ -62,9 +62,9 @@ fn fetch(input: &mut impl Read, buffer: &mut [u8], stream: Stream) -> io::Result
 
 // Whether more pieces may change anything: not once the capture is refused by its header. A packet record that isn't all there
 // yet may still be completed.
-fn may_go_on(stop: Stop) -> bool {
-    match stop {
-        Stop::Refused(refusal) => refusal == Refusal::TruncatedRecord,
+fn may_go_on(said: LastSaid) -> bool {
+    match said {
+        LastSaid::Refused(number) => number == Refusal::TruncatedRecord.number(),
         _ => true,
     }
 }
