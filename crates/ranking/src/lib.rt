@@ -3,19 +3,23 @@
 
 #![tactic(auto)]
 
-ghost use Rattle.std.specs.Prelude.{◌≡◌, ℕ, Bool};
+ghost use Rattle.std.specs.Prelude.{◌≡◌, ◌+◌, ◌*◌, ◌^◌, ℕ, Bool};
 ghost use Rattle.ranking.specs.Best.{kept};
 ghost use Rattle.ranking.specs.Methods.{heavier as heavier-of, nearer as nearer-of};
 
 // Whether server a outranks server b by weight, as HRW and the row table rank.
-// Stays (4): as tuples, (weight_a, a) > (weight_b, b), an HRW pick among 64 servers takes 2,022 instructions, not 1,692; nearer likewise.
+// Stays (4): as tuples an HRW pick among 64 servers takes a fifth more instructions than with two comparisons, as one number it takes fewer.
 pub fn heavier(weight_a: u32, a: u32, weight_b: u32, b: u32) -> bool
     ensures { result ≡ heavier-of weight_a a weight_b b }
 {
-    if weight_a == weight_b {
-        return b < a;
-    }
-    weight_b < weight_a
+    ranked(weight_b, b) < ranked(weight_a, a)
+}
+
+// A weight with its server behind it, as one number.
+fn ranked(weight: u32, server: u32) -> u64
+    ensures { result ≡ weight * 2 ^ 32 + server }
+{
+    u64::from(weight) * 4294967296 + u64::from(server)
 }
 
 // Whether server a outranks server b by clockwise distance, as the ring ranks.

@@ -41,17 +41,14 @@ pub enum Found {
 }
 
 // How many records are used.
-#[tactic(auto, using(crate::proofs::Counting::counting))]
 pub fn used(table: &[u8]) -> usize
     ensures { result ≡ used-of table.now }
 {
-    let room = table.len() / RECORD_BYTES;
-    for at in (TAG_OFFSET..room * RECORD_BYTES).step_by(RECORD_BYTES) {
-        if !used_tag(table[at]) {
-            return at / RECORD_BYTES;
-        }
-    }
-    room
+    let (records, _) = table.as_chunks::<RECORD_BYTES>();
+    records
+        .iter()
+        .position(|record| !used_tag(record[TAG_OFFSET]))
+        .unwrap_or(records.len())
 }
 
 // The first used record with a key. The records before the first half-closed one are passed here, where one tag is asked for: that is one
