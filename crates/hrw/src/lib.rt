@@ -19,7 +19,8 @@ pub fn choose(movers: Movers, digest: u32) -> Option<Best>
 {
     let mut best = None;
     for (&server, &state) in movers.servers.iter().zip(movers.states) {
-        if state == sets::WORKING {
+        let works = state == sets::WORKING;
+        if works {
             let measure = hash::weight(server, digest);
             best = Some(ranking::keep::<ByWeight>(best, Best { server, measure }));
         }

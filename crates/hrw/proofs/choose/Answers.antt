@@ -12,15 +12,15 @@ loop-server-init c =
     let e : left 1 c.into_iter-server-iterator.result ≡ in_state 1 p.movers.servers.now p.movers.states.now = cc in
     rw e (kept_all_best heavier (λ s. weight s p.digest) (in_state 1 p.movers.servers.now p.movers.states.now))
 
-pub loop-server-preserved-then-state-eq-WORKING : goal.loop-server-preserved-then-state-eq-WORKING
+pub loop-server-preserved-then-works : goal.loop-server-preserved-then-works
 unfolding kept_all
-loop-server-preserved-then-state-eq-WORKING c =
-    let e = left_here 1 c.loop-server.server-iterator c.next.new.self c.next.result c.next.ensures.steps _ c.in-Some.is c.if-state-eq-WORKING.true in
+loop-server-preserved-then-works c =
+    let e = left_here 1 c.loop-server.server-iterator c.next.new.self c.next.result c.next.ensures.steps _ c.in-Some.is c.if-works.true in
     rw (c.keep.ensures, c.weight-measure.ensures) (rw e at c.loop-server.invariant)
 
 pub loop-server-preserved : goal.loop-server-preserved
 loop-server-preserved c =
-    let e = left_other 1 c.loop-server.server-iterator c.next.new.self c.next.result c.next.ensures.steps _ c.in-Some.is c.if-state-eq-WORKING.false in
+    let e = left_other 1 c.loop-server.server-iterator c.next.new.self c.next.result c.next.ensures.steps _ c.in-Some.is c.if-works.false in
     rw e at c.loop-server.invariant
 
 pub returns : goal.returns
