@@ -134,7 +134,9 @@ fn admit(event: Result<Event, RefusedBy>, sized: bool, roster: &Roster) -> Resul
     if !sized {
         return Err(Refusal::WrongLengths.into());
     }
-    if !looking::is_packet(event) && !roster::sound(*roster) {
+    if !looking::is_packet(event)
+        && !roster::parts::sound(roster.places(), roster.held, roster.settings)
+    {
         return Err(Refusal::UnsoundRoster.into());
     }
     event
