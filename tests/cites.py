@@ -74,7 +74,7 @@ def unknown(page, names):
 def main():
     pages = ["README.md", "tests/model/README.md"]
     pages += sorted(os.path.relpath(p, ROOT) for p in glob.glob(os.path.join(ROOT, "docs", "*.md")))
-    for page in ("PORT.md", "DESIGN-PASS.md"):          # they name what is gone, as the landing notes do
+    for page in ("PORT.md", "DESIGN-PASS.md", "LOOK-BACK.md"):          # they name what is gone, as the landing notes do
         pages.remove(os.path.join("docs", page))
     names = everywhere()
     faults = [fault for page in pages for fault in [*missing(page), *unknown(page, names)]]
